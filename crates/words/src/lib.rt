@@ -1,0 +1,4 @@
+// The script format: words, their kinds and parts, scans over them, and the bounded stack.
+pub mod format;
+pub mod refusal;
+pub mod word;
