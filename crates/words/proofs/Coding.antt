@@ -54,7 +54,7 @@ numbered-code (x ∷ ks) n zero p h = omega (arith, p .0)
 numbered-code (x ∷ ks) n (suc k) p h = let e = numbered-code ks (suc n) k (p .1) h in omega arith
 
 kinds-numbered : Numbered 0 kinds
-kinds-numbered = ( refl, (refl, (refl, (refl, (refl, (refl, (refl, (refl, (refl, (refl, (refl, (refl, (refl, (refl, (refl, (refl, (refl, (refl, (refl, (refl, (refl, (refl, (refl, (refl, (refl, (refl, (refl, (refl, tt))))))))))))))))))))))))))))
+kinds-numbered = (refl, (refl, (refl, (refl, (refl, (refl, (refl, (refl, (refl, (refl, (refl, (refl, (refl, (refl, (refl, (refl, (refl, (refl, (refl, (refl, (refl, (refl, (refl, (refl, (refl, (refl, (refl, (refl, tt))))))))))))))))))))))))))))
 
 pub code-kind-of : (k : ℕ) → 0 < code (kind-of k) → code (kind-of k) ≡ k
 code-kind-of k h = omega (arith, numbered-code kinds 0 k kinds-numbered h)

@@ -104,7 +104,7 @@ one a = four a no-part no-part no-part
 abbrev pub for-parts : ℕ → Parts
 for-parts n =
     four (part Expression (has for-expression n) Same) (part ForDeclaration (has for-declaration n) Same)
-      (part Expression (has for-test n + has for-update n) Same) (part SingleStatement 1 LoopBody)
+    (part Expression (has for-test n + has for-update n) Same) (part SingleStatement 1 LoopBody)
 
 abbrev pub try-parts : ℕ → Parts
 try-parts n = three (part Body 1 Nested) (part Catch (has try-catch n) Nested) (part Body (has try-finalizer n) Nested)

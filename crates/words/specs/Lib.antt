@@ -1,4 +1,8 @@
 pub mod Words
+pub mod Format
 pub mod Tree
 pub mod Encode
-pub mod Format
+pub mod Scan
+pub mod Weight
+pub mod Places
+pub mod Stack

@@ -72,8 +72,8 @@ read-word w = word (kind-of (w / number-limit)) (w % number-limit)
 abbrev pub write-word : Word → Option ℕ
 write-word w =
     cond (is-listed (w .kind))
-      (cond (ltb (w .number) number-limit) (Some (code (w .kind) * number-limit + w .number)) None)
-      None
+    (cond (ltb (w .number) number-limit) (Some (code (w .kind) * number-limit + w .number)) None)
+    None
 
 -- A For's number is the sum of these, for the parts that it has,
 abbrev pub for-expression : ℕ
@@ -105,3 +105,7 @@ return-value = 1
 -- 1 where a number has such a part in its sum, else 0
 abbrev pub has : ℕ → ℕ → ℕ
 has part n = n / part % 2
+
+-- a script has at most so many words
+abbrev pub max-words : ℕ
+max-words = 16000

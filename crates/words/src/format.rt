@@ -7,21 +7,29 @@ use crate::word::*;
 
 // A For's number is the sum of these, for the parts that it has.
 pub const FOR_EXPRESSION: u32 = 1;
+
 pub const FOR_DECLARATION: u32 = 2;
+
 pub const FOR_TEST: u32 = 4;
+
 pub const FOR_UPDATE: u32 = 8;
 
 // An If's number where it has an alternate, and a Return's where it has a value; else 0.
 pub const IF_ALTERNATE: u32 = 1;
+
 pub const RETURN_VALUE: u32 = 1;
 
 // A Try's number is the sum of these, for the parts that it has.
 pub const TRY_CATCH: u32 = 1;
+
 pub const TRY_FINALIZER: u32 = 2;
 
 const FOR_ALL: u32 = FOR_EXPRESSION + FOR_DECLARATION + FOR_TEST + FOR_UPDATE;
+
 const TRY_ALL: u32 = TRY_CATCH + TRY_FINALIZER;
+
 const FEWEST_DECLARATORS: u32 = 1;
+
 const SHORTEST_SEQUENCE: u32 = 2;
 
 // What a part may be.
@@ -86,7 +94,8 @@ impl What {
     {
         match self {
             What::ListStatement => kind.is_between(Kind::Empty, Kind::Try),
-            What::SingleStatement => kind.is_between(Kind::Empty, Kind::Var) || kind.is_between(Kind::If, Kind::Try),
+            What::SingleStatement => kind.is_between(Kind::Empty, Kind::Var)
+                || kind.is_between(Kind::If, Kind::Try),
             What::ForDeclaration => kind.is_between(Kind::Var, Kind::Let),
             What::Declarator => kind.is_between(Kind::Name, Kind::NameInit),
             What::CatchParameter => kind.is_between(Kind::Name, Kind::Name),
@@ -103,7 +112,11 @@ impl What {
     pub fn after(self, kind: Kind) -> What
         ensures { λ r. ⌜ r ≡ after self kind ⌝ }
     {
-        if kind.code() == Kind::Default.code() { What::CaseAfterDefault } else { self }
+        if kind.code() == Kind::Default.code() {
+            What::CaseAfterDefault
+        } else {
+            self
+        }
     }
 
     // Whether the statements around it count: they do for statements and cases.
@@ -111,14 +124,16 @@ impl What {
         ensures { λ r. ⌜ r ≡ has-depth self ⌝ }
     {
         match self {
-            What::ListStatement | What::SingleStatement | What::Case | What::CaseAfterDefault => true,
+            What::ListStatement | What::SingleStatement | What::Case | What::CaseAfterDefault =>
+                true,
             _ => false,
         }
     }
 }
 
 impl Kind {
-    fn is_between(self, low: Kind, high: Kind) -> bool
+    // Whether the kind's number lies between those of two others.
+    pub(crate) fn is_between(self, low: Kind, high: Kind) -> bool
         ensures { λ r. ⌜ r ≡ from-to low high self ⌝ }
     {
         low.code() <= self.code() && self.code() <= high.code()
@@ -130,10 +145,17 @@ impl Kind {
     {
         match self {
             Kind::Unlisted => false,
-            Kind::Empty | Kind::Expr | Kind::While | Kind::Do | Kind::Break | Kind::Continue | Kind::Throw => number == 0,
+            Kind::Empty
+            | Kind::Expr
+            | Kind::While
+            | Kind::Do
+            | Kind::Break
+            | Kind::Continue
+            | Kind::Throw => number == 0,
             Kind::Var | Kind::Let => FEWEST_DECLARATORS <= number,
             Kind::If => number <= IF_ALTERNATE,
-            Kind::For => number <= FOR_ALL && number / FOR_EXPRESSION % 2 + number / FOR_DECLARATION % 2 <= 1,
+            Kind::For => number <= FOR_ALL
+                && number / FOR_EXPRESSION % 2 + number / FOR_DECLARATION % 2 <= 1,
             Kind::Return => number <= RETURN_VALUE,
             Kind::Try => TRY_CATCH <= number && number <= TRY_ALL,
             Kind::Sequence => SHORTEST_SEQUENCE <= number,
@@ -142,13 +164,21 @@ impl Kind {
     }
 }
 
-const NO_PART: Part = Part { what: What::Expression, times: 0, surroundings: Surroundings::Same };
+const NO_PART: Part = Part {
+    what: What::Expression,
+    times: 0,
+    surroundings: Surroundings::Same,
+};
 
 impl Part {
     fn new(what: What, times: u32, surroundings: Surroundings) -> Part
         ensures { λ r. ⌜ r ≡ part what times surroundings ⌝ }
     {
-        Part { what, times, surroundings }
+        Part {
+            what,
+            times,
+            surroundings,
+        }
     }
 }
 
@@ -156,25 +186,45 @@ impl Parts {
     fn one(first: Part) -> Parts
         ensures { λ r. ⌜ r ≡ one first ⌝ }
     {
-        Parts { first, second: NO_PART, third: NO_PART, fourth: NO_PART }
+        Parts {
+            first,
+            second: NO_PART,
+            third: NO_PART,
+            fourth: NO_PART,
+        }
     }
 
     fn two(first: Part, second: Part) -> Parts
         ensures { λ r. ⌜ r ≡ two first second ⌝ }
     {
-        Parts { first, second, third: NO_PART, fourth: NO_PART }
+        Parts {
+            first,
+            second,
+            third: NO_PART,
+            fourth: NO_PART,
+        }
     }
 
     fn three(first: Part, second: Part, third: Part) -> Parts
         ensures { λ r. ⌜ r ≡ three first second third ⌝ }
     {
-        Parts { first, second, third, fourth: NO_PART }
+        Parts {
+            first,
+            second,
+            third,
+            fourth: NO_PART,
+        }
     }
 
     fn four(first: Part, second: Part, third: Part, fourth: Part) -> Parts
         ensures { λ r. ⌜ r ≡ four first second third fourth ⌝ }
     {
-        Parts { first, second, third, fourth }
+        Parts {
+            first,
+            second,
+            third,
+            fourth,
+        }
     }
 }
 
@@ -184,8 +234,16 @@ fn for_parts(n: u32) -> Parts
 {
     Parts::four(
         Part::new(What::Expression, n / FOR_EXPRESSION % 2, Surroundings::Same),
-        Part::new(What::ForDeclaration, n / FOR_DECLARATION % 2, Surroundings::Same),
-        Part::new(What::Expression, n / FOR_TEST % 2 + n / FOR_UPDATE % 2, Surroundings::Same),
+        Part::new(
+            What::ForDeclaration,
+            n / FOR_DECLARATION % 2,
+            Surroundings::Same,
+        ),
+        Part::new(
+            What::Expression,
+            n / FOR_TEST % 2 + n / FOR_UPDATE % 2,
+            Surroundings::Same,
+        ),
         Part::new(What::SingleStatement, 1, Surroundings::LoopBody),
     )
 }
@@ -205,7 +263,10 @@ fn try_parts(n: u32) -> Parts
 fn led_by(what: What, rest: What, times: u32, surroundings: Surroundings) -> Parts
     ensures { λ r. ⌜ r ≡ two (part what 1 Same) (part rest times surroundings) ⌝ }
 {
-    Parts::two(Part::new(what, 1, Surroundings::Same), Part::new(rest, times, surroundings))
+    Parts::two(
+        Part::new(what, 1, Surroundings::Same),
+        Part::new(rest, times, surroundings),
+    )
 }
 
 impl Word {
@@ -216,7 +277,11 @@ impl Word {
         let n = self.number;
         match self.kind {
             Kind::Block => Parts::one(Part::new(What::ListStatement, n, Surroundings::Nested)),
-            Kind::Expr | Kind::Throw | Kind::NameInit => Parts::one(Part::new(What::Expression, 1, Surroundings::Same)),
+            Kind::Expr | Kind::Throw | Kind::NameInit => Parts::one(Part::new(
+                What::Expression,
+                1,
+                Surroundings::Same,
+            )),
             Kind::Var | Kind::Let => Parts::one(Part::new(What::Declarator, n, Surroundings::Same)),
             Kind::If => Parts::three(
                 Part::new(What::Expression, 1, Surroundings::Same),
@@ -224,7 +289,12 @@ impl Word {
                 Part::new(What::SingleStatement, n, Surroundings::Nested),
             ),
             Kind::For => for_parts(n),
-            Kind::While => led_by(What::Expression, What::SingleStatement, 1, Surroundings::LoopBody),
+            Kind::While => led_by(
+                What::Expression,
+                What::SingleStatement,
+                1,
+                Surroundings::LoopBody,
+            ),
             Kind::Do => Parts::two(
                 Part::new(What::SingleStatement, 1, Surroundings::LoopBody),
                 Part::new(What::Expression, 1, Surroundings::Same),
@@ -233,8 +303,17 @@ impl Word {
             Kind::Label => Parts::one(Part::new(What::SingleStatement, 1, Surroundings::LabelBody)),
             Kind::Return => Parts::one(Part::new(What::Expression, n, Surroundings::Same)),
             Kind::Try => try_parts(n),
-            Kind::Body | Kind::Catch | Kind::Default => Parts::one(Part::new(What::ListStatement, n, Surroundings::Same)),
-            Kind::CatchName => led_by(What::CatchParameter, What::ListStatement, n, Surroundings::Same),
+            Kind::Body | Kind::Catch | Kind::Default => Parts::one(Part::new(
+                What::ListStatement,
+                n,
+                Surroundings::Same,
+            )),
+            Kind::CatchName => led_by(
+                What::CatchParameter,
+                What::ListStatement,
+                n,
+                Surroundings::Same,
+            ),
             Kind::Case => led_by(What::Expression, What::ListStatement, n, Surroundings::Same),
             Kind::Sequence => Parts::one(Part::new(What::SequencePart, n, Surroundings::Same)),
             _ => Parts::one(NO_PART),
@@ -246,6 +325,9 @@ impl Word {
         ensures { λ r. ⌜ r ≡ part-count self ⌝ }
     {
         let parts = self.parts();
-        parts.first.times as usize + parts.second.times as usize + parts.third.times as usize + parts.fourth.times as usize
+        parts.first.times as usize
+            + parts.second.times as usize
+            + parts.third.times as usize
+            + parts.fourth.times as usize
     }
 }

@@ -95,7 +95,11 @@ impl Kind {
     fn of(code: u32) -> Kind
         ensures { λ r. ⌜ r ≡ kind-of code ⌝ }
     {
-        if code < KIND_COUNT { KINDS[code as usize] } else { Kind::Unlisted }
+        if code < KIND_COUNT {
+            KINDS[code as usize]
+        } else {
+            Kind::Unlisted
+        }
     }
 }
 
@@ -116,7 +120,10 @@ impl Word {
         ensures value { λ r. ⌜ r ≡ read-word word ⌝ }
         ensures written { λ r. ⌜ (is-listed (r .kind) ≡ true → write-word r ≡ Some word) ⌝ }
     {
-        Word { kind: Kind::of(word / NUMBER_LIMIT), number: word % NUMBER_LIMIT }
+        Word {
+            kind: Kind::of(word / NUMBER_LIMIT),
+            number: word % NUMBER_LIMIT,
+        }
     }
 
     // Puts a word together; none for an unlisted kind, or a number that has no room.

@@ -10,4 +10,5 @@ returns c =
     let e : word (c .of .result) (w % number-limit) ≡ read-word w = ap (λ k. word k (w % number-limit)) (c .of .ensures) in
     record {
       value = e;
-      written = λ h. ap write-word e ∙ written-back w (ap is-listed (sym (c .of .ensures)) ∙ h) }
+      written = λ h. ap write-word e ∙ written-back w (ap is-listed (sym (c .of .ensures)) ∙ h);
+    }

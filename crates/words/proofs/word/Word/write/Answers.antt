@@ -17,4 +17,5 @@ returns-then-self-lt-NUMBER-LIMIT c =
     let made = ap (λ k. k * number-limit + w .number) e in
     record {
       value = ap Some made ∙ sym (cond-true _ _ _ (lt-ltb 0 (code (w .kind)) listed) ∙ cond-true _ _ _ (lt-ltb (w .number) number-limit small));
-      reads = λ x h. ap read-word (let s : x ≡ c .code-code .result * number-limit + w .number = cc in s ∙ made) ∙ reads-back w small }
+      reads = λ x h. ap read-word (let s : x ≡ c .code-code .result * number-limit + w .number = cc in s ∙ made) ∙ reads-back w small;
+    }

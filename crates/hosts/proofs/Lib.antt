@@ -1,0 +1,3 @@
+pub mod TextLemmas
+pub mod RowLemmas
+pub mod SheetLemmas

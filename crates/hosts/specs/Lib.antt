@@ -1,0 +1,16 @@
+pub mod Fault
+pub mod Lists
+pub mod Bytes
+pub mod Text
+pub mod Strict
+pub mod SheetValues
+pub mod RowWord
+pub mod Worlds
+pub mod RowLaws
+pub mod Rows
+pub mod RowsModel
+pub mod RowsLaws
+pub mod SheetRows
+pub mod SheetModel
+pub mod SheetLaws
+pub mod SheetAnswers

@@ -1,0 +1,11 @@
+// The two hosts: rows of numbers, and a sheet of values.
+pub mod fault;
+pub mod granted;
+pub mod literals;
+mod row;
+mod row_word;
+pub mod rows;
+pub mod sheet;
+mod sheet_row;
+pub mod sheet_value;
+pub mod text;
