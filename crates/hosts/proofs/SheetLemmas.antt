@@ -6,6 +6,7 @@ use mathlib.Core.Bool.{Bool, true, false, not, cond, _&&_, _||_, Bool·beq}
 use Prim.Native.Nat.{ℕ, _+_, _≤_, _<_}
 use native.Mathlib.Omega.{arith}
 use lib.Dec.{eqb, ltb}
+use lib.IntN.{ℤ, pos}
 use lib.ListN.{length, getD}
 use borrow.Author.Tests.{ltb-true, ltb-false, clash}
 use Rattle.std.specs.Finite.{nth}
@@ -56,11 +57,11 @@ kind-fine rows entries e (Some (AreEqual r s)) h =
     (ltb-true r e (first .0), first .1, ltb-true s e (second .0), second .1)
 kind-fine rows entries e (Some Command) h = tt
 
-whole-there : (k : ℕ) (v : Option SheetValue) → is-whole k v ≡ true → isSome v ≡ true
+whole-there : (k : ℤ) (v : Option SheetValue) → is-whole k v ≡ true → isSome v ≡ true
 whole-there k None h = absurd (clash h)
 whole-there k (Some v) h = refl
 
-literal-fine : (rows : List ℕ) (entries : List SheetValue) (e k : ℕ) (row : Option SheetRow) → literal-of-whole entries k row ≡ true → Fine rows entries e row
+literal-fine : (rows : List ℕ) (entries : List SheetValue) (e : ℕ) (k : ℤ) (row : Option SheetRow) → literal-of-whole entries k row ≡ true → Fine rows entries e row
 literal-fine rows entries e k None h = tt
 literal-fine rows entries e k (Some (Literal n)) h = whole-there k (nth entries n) h
 literal-fine rows entries e k (Some (Named n)) h = absurd (clash h)
@@ -68,9 +69,9 @@ literal-fine rows entries e k (Some (IsFalse n)) h = absurd (clash h)
 literal-fine rows entries e k (Some (AreEqual r s)) h = absurd (clash h)
 literal-fine rows entries e k (Some Command) h = tt
 
-by-index : (rows : List ℕ) (entries : List SheetValue) (e : ℕ) (row : Option SheetRow) (a b : Bool) → cond a (literal-of-whole entries 0 row) (cond b (literal-of-whole entries 1 row) (kind-allowed rows entries e row)) ≡ true → Fine rows entries e row
-by-index rows entries e row true b h = literal-fine rows entries e 0 row h
-by-index rows entries e row false true h = literal-fine rows entries e 1 row h
+by-index : (rows : List ℕ) (entries : List SheetValue) (e : ℕ) (row : Option SheetRow) (a b : Bool) → cond a (literal-of-whole entries (pos 0) row) (cond b (literal-of-whole entries (pos 1) row) (kind-allowed rows entries e row)) ≡ true → Fine rows entries e row
+by-index rows entries e row true b h = literal-fine rows entries e (pos 0) row h
+by-index rows entries e row false true h = literal-fine rows entries e (pos 1) row h
 by-index rows entries e row false false h = kind-fine rows entries e row h
 
 -- operands below e alone matter

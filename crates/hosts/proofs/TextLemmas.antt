@@ -14,11 +14,11 @@ use Rattle.std.specs.declared.option.Option.{Option}
 use Rattle.std.specs.declared.option.Option.the-variants.{Some, None}
 use Rattle.std.proofs.shelf.Bits.{div-below, pow-add}
 use Rattle.std.proofs.shelf.Lists.{take-append-drop, take-rest, length-take-le, length-drop}
-use Rattle.hosts.specs.Lists.{equal-lists}
+use Rattle.hosts.specs.Common.{equal-lists}
 use Rattle.hosts.specs.Strict.{text, to-boolean}
 use Rattle.hosts.specs.declared.text.Text.{Text}
 use Rattle.hosts.specs.Bytes.{bytes-of, byte-at, byte-count, half-count, half-length, longest-text, join-halves, text-length}
-use Rattle.hosts.specs.Text.{text-bytes}
+use Rattle.hosts.specs.SheetValues.{text-bytes}
 
 pub bytes-step : (k n b : ℕ) → b < byte-count → bytes-of (suc k) (n * byte-count + b) ≡ b ∷ bytes-of k n
 bytes-step k n b h =
@@ -159,10 +159,10 @@ module _ (xs : List ℕ) (low high : ℕ) (long : half-length ≤ length xs) whe
   second-length = ap length second ∙ length-drop half-length xs
 
   pub halves-bytes :
-    low < half-count →
-    bytes-of (length (take half-length xs)) low ≡ take half-length xs →
-    bytes-of (length (take (length xs - half-length) (drop half-length xs))) high ≡ take (length xs - half-length) (drop half-length xs) →
-    bytes-of (length xs) (join-halves low high) ≡ xs
+      low < half-count →
+      bytes-of (length (take half-length xs)) low ≡ take half-length xs →
+      bytes-of (length (take (length xs - half-length) (drop half-length xs))) high ≡ take (length xs - half-length) (drop half-length xs) →
+      bytes-of (length xs) (join-halves low high) ≡ xs
   halves-bytes h p q =
       let k = length xs - half-length in
       let all : half-length + k ≡ length xs = omega arith in
@@ -172,9 +172,9 @@ module _ (xs : List ℕ) (low high : ℕ) (long : half-length ≤ length xs) whe
       ap (λ (n : ℕ). bytes-of n (join-halves low high)) (sym all) ∙ both ∙ ap (λ (l : List ℕ). l ++ bytes-of k high) first ∙ ap (λ (l : List ℕ). take half-length xs ++ l) rest ∙ take-append-drop half-length xs
 
   pub halves-within :
-    low < half-count →
-    high < byte-count ^ length (take (length xs - half-length) (drop half-length xs)) →
-    join-halves low high < byte-count ^ length xs
+      low < half-count →
+      high < byte-count ^ length (take (length xs - half-length) (drop half-length xs)) →
+      join-halves low high < byte-count ^ length xs
   halves-within h p =
       let k = length xs - half-length in
       let all : k + half-length ≡ length xs = omega arith in

@@ -1,5 +1,6 @@
--- The words of rows, for both hosts: a kind in the top 5 of 32 bits and a number in the low 27,
--- and the limits on how many rows there are.
+-- The words of rows and the refusals to make a host, for both hosts. A word has a kind in the top 5 of
+-- its 32 bits and a number in the low 27. A refusal has number 13 and layer host; its place is the
+-- number of rows or the index of a row.
 use mathlib.Core.List.{List, [], _∷_}
 use mathlib.Core.Bool.{Bool, cond}
 use Prim.Native.Nat.{ℕ, _+_, _/_, _%_}
@@ -7,8 +8,26 @@ use lib.Dec.{ltb}
 use lib.ListN.{length}
 use Rattle.std.specs.declared.option.Option.{Option}
 use Rattle.std.specs.declared.option.Option.the-variants.{Some, None}
+use Rattle.std.specs.declared.result.Result.{Result}
+use Rattle.std.specs.declared.result.Result.the-variants.{Ok, Err}
+use Rattle.words.specs.declared.refusal.Refusal.{Refusal}
+use Rattle.words.specs.declared.refusal.Layer.{Layer}
+use Rattle.words.specs.declared.refusal.Layer.the-variants.{Host}
 use Rattle.hosts.specs.declared.fault.HostFault.{HostFault}
 use Rattle.hosts.specs.declared.fault.HostFault.the-variants.{RowCount, Row}
+
+abbrev pub host-refusal : ℕ
+host-refusal = 13
+
+-- the refusal of each fault
+abbrev pub refusal-of : HostFault → Refusal
+refusal-of (RowCount count) = record { number = host-refusal; layer = Host; place = count }
+refusal-of (Row index) = record { number = host-refusal; layer = Host; place = index }
+
+-- what making a host answers: the fault, where there is one
+abbrev pub answer-of : Option HostFault → Result (Unit {0}) HostFault
+answer-of None = Ok tt
+answer-of (Some fault) = Err fault
 
 -- the least number that 27 bits do not hold
 abbrev pub number-limit : ℕ

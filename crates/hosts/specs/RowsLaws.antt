@@ -15,8 +15,7 @@ use Rattle.hosts.specs.declared.row.Row.{Row}
 use Rattle.hosts.specs.declared.row.Row.the-variants.{Literal, NamedConstant, Command, NextAnswer, SentCount}
 use Rattle.hosts.specs.RowWord.{literal-0, literal-1, no-row, first-bad}
 use Rattle.hosts.specs.RowLaws.{accepted-rows, each-allowed}
-use Rattle.hosts.specs.Rows.{row-of, row-at, row-allowed, rows-refused}
-use Rattle.hosts.specs.RowsModel.{number-value, number-truth, rows-truthy, known-number, row-effects, row-literal, evaluate-row, rows-model}
+use Rattle.hosts.specs.Rows.{row-of, row-at, row-allowed, rows-refused, number-value, number-truth, rows-truthy, known-number, row-effects, row-literal, evaluate-row, rows-model}
 
 none-is-some : {A B : Type 0} → (x : A) → _≡_ {A = Option A} None (Some x) → B
 none-is-some x p = let z : _≡_ {A = ℕ} 0 1 = cc in absurd (omega arith)

@@ -19,13 +19,13 @@ use Rattle.hosts.specs.declared.sheet_value.SheetValue.{SheetValue}
 use Rattle.hosts.specs.declared.sheet_value.SheetValue.the-variants.{Yes, No, Number, MinusZero, NotANumber, Text}
 use Rattle.hosts.specs.RowWord.{no-row, first-bad}
 use Rattle.hosts.specs.RowLaws.{accepted-rows, each-allowed}
-use Rattle.hosts.specs.Worlds.{and-then, map-outcome}
+use Rattle.hosts.specs.Common.{and-then, map-outcome}
 use Rattle.hosts.specs.Strict.{LanguageValue, boolean, number, text, integer, minus-zero, not-a-number, is-strictly-equal, to-boolean, same-integer}
-use Rattle.hosts.specs.SheetValues.{language, listed, read-value, truth-of, equality-of, sheet-truthy, sheet-equal, ReadInverts, TruthOfMeaning, EqualityOfMeanings}
+use Rattle.hosts.specs.SheetValues.{language, listed, read-value, truth-of, equality-of, sheet-truthy, sheet-equal, MeaningsOfValues}
 use Rattle.hosts.specs.SheetRows.{sheet-row-of, sheet-row-at, is-whole, literal-of-whole, sheet-row-allowed, sheet-refused}
 use Rattle.hosts.specs.SheetModel.{Expression, unknown-expression, entry-expression, false-expression, falsehood, equal-expression, equality, known-equality, command-expression, answer-outcome, expression-of, with-expression, with-rows, sheet-expression, sheet-model, without-last}
 
-pub read-inverts : ReadInverts
+read-inverts : (v : LanguageValue) → read-value (listed v) ≡ Some v
 read-inverts (boolean true) = refl
 read-inverts (boolean false) = refl
 read-inverts (number (integer (pos n))) = refl
@@ -34,11 +34,15 @@ read-inverts (number minus-zero) = refl
 read-inverts (number not-a-number) = refl
 read-inverts (text units) = refl
 
-pub truth-of-meaning : TruthOfMeaning
+truth-of-meaning : (v : LanguageValue) → sheet-truthy (listed v) ≡ to-boolean v
 truth-of-meaning v = ap truth-of (read-inverts v)
 
-pub equality-of-meanings : EqualityOfMeanings
-equality-of-meanings x y = ap (λ (a : Option LanguageValue). equality-of a (read-value (listed y))) (read-inverts x) ∙ ap (equality-of (Some x)) (read-inverts y)
+pub meanings-of-values : MeaningsOfValues
+meanings-of-values = record {
+  inverse = read-inverts;
+  truth = truth-of-meaning;
+  equality = λ x y. ap (λ (a : Option LanguageValue). equality-of a (read-value (listed y))) (read-inverts x) ∙ ap (equality-of (Some x)) (read-inverts y);
+}
 
 -- an expression keeps the laws on value, effects and literal
 record Sound (x : Expression) : Type 0 where
@@ -90,9 +94,9 @@ mapped-some f (Some x) k p = let a : f x ≡ k = cc in (x, refl, a)
 false-sound : (x : Expression) → Sound x → Sound (false-expression x)
 false-sound x s = record {
   value = λ k p w v u q.
-    let known = mapped-some falsehood (x .known) k p in
-    let given = mapped-gives falsehood (x .evaluation w) v u q in
-    given .2 ∙ ap falsehood (s .value (known .0) (known .1) w (given .0) u (given .1)) ∙ known .2;
+      let known = mapped-some falsehood (x .known) k p in
+      let given = mapped-gives falsehood (x .evaluation w) v u q in
+      given .2 ∙ ap falsehood (s .value (known .0) (known .1) w (given .0) u (given .1)) ∙ known .2;
   quiet = λ p w. let given = s .quiet p w in (falsehood (given .0), ap (map-outcome falsehood) (given .1));
   literal = λ p. absurd (clash p);
 }
@@ -115,17 +119,18 @@ neither-acts false b p = (refl, p)
 equal-sound : (x y : Expression) → Sound x → Sound y → Sound (equal-expression x y)
 equal-sound x y s t = record {
   value = λ k p w v u q.
-    let known = both-known (x .known) (y .known) k p in
-    let given = both-give (x .evaluation w) y v u q in
-    let first = s .value (known .0) (known .2) w (given .0) (given .1) (given .3) in
-    let second = t .value (known .1) (known .3) (given .1) (given .2) u (given .4) in
-    given .5 ∙ ap (λ (a : LanguageValue). equality a (given .2)) first ∙ ap (equality (known .0)) second ∙ known .4;
+      let known = both-known (x .known) (y .known) k p in
+      let given = both-give (x .evaluation w) y v u q in
+      let first = s .value (known .0) (known .2) w (given .0) (given .1) (given .3) in
+      let second = t .value (known .1) (known .3) (given .1) (given .2) u (given .4) in
+      given .5 ∙ ap (λ (a : LanguageValue). equality a (given .2)) first ∙ ap (equality (known .0)) second ∙ known .4;
   quiet = λ p w.
-    let quiets = neither-acts (x .effects) (y .effects) p in
-    let first = s .quiet (quiets .0) w in
-    let second = t .quiet (quiets .1) w in
-    (equality (first .0) (second .0),
-     ap (λ (o : Outcome LanguageValue). and-then o (λ a u. map-outcome (equality a) (y .evaluation u))) (first .1) ∙ ap (map-outcome (equality (first .0))) (second .1));
+      let quiets = neither-acts (x .effects) (y .effects) p in
+      let first = s .quiet (quiets .0) w in
+      let second = t .quiet (quiets .1) w in (
+        equality (first .0) (second .0),
+        ap (λ (o : Outcome LanguageValue). and-then o (λ a u. map-outcome (equality a) (y .evaluation u))) (first .1) ∙ ap (map-outcome (equality (first .0))) (second .1),
+      );
   literal = λ p. absurd (clash p);
 }
 
@@ -183,9 +188,9 @@ rows-here entries i table (word ∷ later) zero h =
       before = table;
       agrees = λ n k. sym (rows-below entries (i + 1) (with-expression table i x) later n (omega arith) ∙ table-other table i x n (λ q. omega arith));
       made =
-        rows-below entries (i + 1) (with-expression table i x) later (i + zero) (omega arith)
-        ∙ ap (with-expression table i x) here ∙ table-here table i x
-        ∙ ap (λ (e : ℕ). expression-of entries table e row) (sym here);
+          rows-below entries (i + 1) (with-expression table i x) later (i + zero) (omega arith)
+          ∙ ap (with-expression table i x) here ∙ table-here table i x
+          ∙ ap (λ (e : ℕ). expression-of entries table e row) (sym here);
     }
 rows-here entries i table (word ∷ later) (suc j) h =
     let x = expression-of entries table i (sheet-row-of word) in
@@ -195,8 +200,8 @@ rows-here entries i table (word ∷ later) (suc j) h =
       before = rest .before;
       agrees = λ n k. rest .agrees n (omega arith);
       made =
-        ap (with-rows entries (i + 1) (with-expression table i x) later) (sym place) ∙ rest .made
-        ∙ ap (λ (e : ℕ). expression-of entries (rest .before) e (sheet-row-of (getD later j no-row))) place;
+          ap (with-rows entries (i + 1) (with-expression table i x) later) (sym place) ∙ rest .made
+          ∙ ap (λ (e : ℕ). expression-of entries (rest .before) e (sheet-row-of (getD later j no-row))) place;
     }
 
 -- nothing is known past the rows
@@ -204,7 +209,7 @@ pub past-rows : (rows : List ℕ) (entries : List SheetValue) (e : ℕ) → leng
 past-rows rows entries e h = rows-past entries 0 (λ n. unknown-expression) rows e (omega arith)
 
 -- a row of which the literal test passed
-whole-entry : (k : ℕ) (v : Option SheetValue) → is-whole k v ≡ true → v ≡ Some (Number (pos k))
+whole-entry : (k : ℕ) (v : Option SheetValue) → is-whole (pos k) v ≡ true → v ≡ Some (Number (pos k))
 whole-entry k None p = absurd (clash p)
 whole-entry k (Some Yes) p = absurd (clash p)
 whole-entry k (Some No) p = absurd (clash p)
@@ -214,7 +219,7 @@ whole-entry k (Some MinusZero) p = absurd (clash p)
 whole-entry k (Some NotANumber) p = absurd (clash p)
 whole-entry k (Some (Text t)) p = absurd (clash p)
 
-whole-expression : (entries : List SheetValue) (table : ℕ → Expression) (e k : ℕ) (row : Option SheetRow) → literal-of-whole entries k row ≡ true → expression-of entries table e row ≡ entry-expression true (Some (Number (pos k)))
+whole-expression : (entries : List SheetValue) (table : ℕ → Expression) (e k : ℕ) (row : Option SheetRow) → literal-of-whole entries (pos k) row ≡ true → expression-of entries table e row ≡ entry-expression true (Some (Number (pos k)))
 whole-expression entries table e k None p = absurd (clash p)
 whole-expression entries table e k (Some (Literal n)) p = ap (entry-expression true) (whole-entry k (nth entries n) p)
 whole-expression entries table e k (Some (Named n)) p = absurd (clash p)
@@ -270,7 +275,7 @@ leave-after-enter : (names : List ℕ) (w : World) → sheet-model [] [] [] .lea
 leave-after-enter names w = ap (λ (s : List (List ℕ)). record { answers = w .answers; sent = w .sent; scopes = s }) (last-off (w .scopes) names)
 
 -- rows 0 and 1 of an accepted sheet
-first-literal : (rows : List ℕ) (entries : List SheetValue) (e k : ℕ) → e < length rows → literal-of-whole entries k (sheet-row-at rows e) ≡ true → sheet-expression rows entries e ≡ entry-expression true (Some (Number (pos k)))
+first-literal : (rows : List ℕ) (entries : List SheetValue) (e k : ℕ) → e < length rows → literal-of-whole entries (pos k) (sheet-row-at rows e) ≡ true → sheet-expression rows entries e ≡ entry-expression true (Some (Number (pos k)))
 first-literal rows entries e k h p =
     let here = rows-here entries 0 (λ n. unknown-expression) rows e h in
     let place : 0 + e ≡ e = omega arith in

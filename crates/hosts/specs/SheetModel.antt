@@ -16,8 +16,7 @@ use Rattle.host.specs.Model.{Model, Value, World, Outcome, gives, throws, no-re
 use Rattle.hosts.specs.declared.sheet_row.SheetRow.{SheetRow}
 use Rattle.hosts.specs.declared.sheet_row.SheetRow.the-variants.{Literal, Named, IsFalse, AreEqual, Command}
 use Rattle.hosts.specs.declared.sheet_value.SheetValue.{SheetValue}
-use Rattle.hosts.specs.Lists.{member}
-use Rattle.hosts.specs.Worlds.{send, take-answer, and-then, map-outcome}
+use Rattle.hosts.specs.Common.{member, send, take-answer, and-then, map-outcome}
 use Rattle.hosts.specs.Strict.{LanguageValue, boolean, number, integer, not-a-number, is-strictly-equal, to-boolean}
 use Rattle.hosts.specs.SheetValues.{language, listed, sheet-truthy, sheet-equal}
 use Rattle.hosts.specs.SheetRows.{sheet-row-of, sheet-row-at}

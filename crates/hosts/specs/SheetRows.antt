@@ -61,11 +61,11 @@ kind-allowed rows entries i (Some (AreEqual r s)) = operand-allowed rows i r && 
 kind-allowed rows entries i (Some Command) = true
 
 -- whether a value is this whole number; minus zero is no whole number here
-abbrev pub is-whole : ℕ → Option SheetValue → Bool
+abbrev pub is-whole : ℤ → Option SheetValue → Bool
 is-whole k None = false
 is-whole k (Some Yes) = false
 is-whole k (Some No) = false
-is-whole k (Some (Number n)) = same-integer n (pos k)
+is-whole k (Some (Number n)) = same-integer n k
 is-whole k (Some MinusZero) = false
 is-whole k (Some NotANumber) = false
 is-whole k (Some (Text t)) = false
@@ -74,11 +74,11 @@ is-whole k (Some (Text t)) = false
 abbrev pub are-zero-and-one : List SheetValue → Bool
 are-zero-and-one [] = false
 are-zero-and-one (a ∷ []) = false
-are-zero-and-one (a ∷ b ∷ []) = is-whole 0 (Some a) && is-whole 1 (Some b)
+are-zero-and-one (a ∷ b ∷ []) = is-whole (pos 0) (Some a) && is-whole (pos 1) (Some b)
 are-zero-and-one (a ∷ b ∷ c ∷ later) = false
 
 -- whether a row is a literal whose entry is this whole number
-abbrev pub literal-of-whole : List SheetValue → ℕ → Option SheetRow → Bool
+abbrev pub literal-of-whole : List SheetValue → ℤ → Option SheetRow → Bool
 literal-of-whole entries k None = false
 literal-of-whole entries k (Some (Literal n)) = is-whole k (nth entries n)
 literal-of-whole entries k (Some (Named n)) = false
@@ -89,8 +89,8 @@ literal-of-whole entries k (Some Command) = false
 -- rows 0 and 1 are the literals 0 and 1, and each other row is as above
 abbrev pub sheet-row-allowed : List ℕ → List SheetValue → ℕ → ℕ → Bool
 sheet-row-allowed rows entries i word =
-    cond (eqb i 0) (literal-of-whole entries 0 (sheet-row-of word))
-    (cond (eqb i 1) (literal-of-whole entries 1 (sheet-row-of word))
+    cond (eqb i 0) (literal-of-whole entries (pos 0) (sheet-row-of word))
+    (cond (eqb i 1) (literal-of-whole entries (pos 1) (sheet-row-of word))
     (kind-allowed rows entries i (sheet-row-of word)))
 
 -- why rows and entries make no sheet, if they make none

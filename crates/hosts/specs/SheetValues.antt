@@ -1,7 +1,7 @@
 -- What the values of a sheet are: language values, and lists of whole numbers that tell them apart.
 -- `read-value` reads a list back, so that truth and strict equality of lists are ToBoolean and
 -- IsStrictlyEqual of the values that they stand for.
-use mathlib.Core.Path.{_≡_, refl, ap}
+use mathlib.Core.Path.{_≡_}
 use mathlib.Core.List.{List, [], _∷_}
 use mathlib.Core.Bool.{Bool, true, false, cond}
 use Prim.Native.Nat.{ℕ}
@@ -12,8 +12,13 @@ use Rattle.std.specs.declared.option.Option.the-variants.{Some, None}
 use Rattle.host.specs.Model.{Value}
 use Rattle.hosts.specs.declared.sheet_value.SheetValue.{SheetValue}
 use Rattle.hosts.specs.declared.sheet_value.SheetValue.the-variants.{Yes, No, Number as Whole, MinusZero, NotANumber, Text as TextOf}
-use Rattle.hosts.specs.Text.{text-bytes}
+use Rattle.hosts.specs.declared.text.Text.{Text}
+use Rattle.hosts.specs.Bytes.{bytes-of, join-halves}
 use Rattle.hosts.specs.Strict.{LanguageValue, boolean, number, text, integer, minus-zero, not-a-number, is-strictly-equal, to-boolean}
+
+-- the bytes of a text, in order
+abbrev pub text-bytes : Text → List ℕ
+text-bytes t = bytes-of (t .len) (join-halves (t .low) (t .high))
 
 -- the language value of each value of a sheet
 abbrev pub language : SheetValue → LanguageValue
@@ -106,13 +111,9 @@ equality-of (Some x) (Some y) = is-strictly-equal x y
 abbrev pub sheet-equal : Value → Value → Bool
 sheet-equal a b = equality-of (read-value a) (read-value b)
 
--- reading inverts listing, so that no two language values have one list
-abbrev pub ReadInverts : Type 0
-ReadInverts = (v : LanguageValue) → read-value (listed v) ≡ Some v
-
--- truth and strict equality of lists are those of the values
-abbrev pub TruthOfMeaning : Type 0
-TruthOfMeaning = (v : LanguageValue) → sheet-truthy (listed v) ≡ to-boolean v
-
-abbrev pub EqualityOfMeanings : Type 0
-EqualityOfMeanings = (x y : LanguageValue) → sheet-equal (listed x) (listed y) ≡ is-strictly-equal x y
+-- What the lists say of the values: reading inverts listing, so that no two language values have one
+-- list, and truth and strict equality of lists are ToBoolean and IsStrictlyEqual of the values.
+pub record MeaningsOfValues : Type 0 where
+  pub inverse : (v : LanguageValue) → read-value (listed v) ≡ Some v
+  pub truth : (v : LanguageValue) → sheet-truthy (listed v) ≡ to-boolean v
+  pub equality : (x y : LanguageValue) → sheet-equal (listed x) (listed y) ≡ is-strictly-equal x y

@@ -6,7 +6,7 @@ use mathlib.Core.Bool.{Bool, true, false, not, cond, _&&_}
 use Prim.Native.Nat.{ℕ}
 use lib.Dec.{eqb}
 use lib.IntN.{ℤ, pos, negsuc}
-use Rattle.hosts.specs.Lists.{equal-lists}
+use Rattle.hosts.specs.Common.{equal-lists}
 
 pub data Number : Type 0 where
   integer : ℤ → Number

@@ -1,6 +1,6 @@
 // Why rows make no host.
 ghost use mathlib.Core.Path.{_≡_};
-ghost use Rattle.hosts.specs.Fault.{refusal-of};
+ghost use Rattle.hosts.specs.RowWord.{refusal-of};
 use words::refusal::Layer;
 use words::refusal::Refusal;
 
@@ -24,6 +24,10 @@ impl HostFault {
             HostFault::RowCount(count) => count,
             HostFault::Row(index) => index,
         };
-        Refusal { number: HOST_REFUSAL, layer: Layer::Host, place }
+        Refusal {
+            number: HOST_REFUSAL,
+            layer: Layer::Host,
+            place,
+        }
     }
 }

@@ -1,6 +1,6 @@
 // The two hosts: rows of numbers, and a sheet of values.
 pub mod fault;
-pub mod granted;
+mod granted;
 pub mod literals;
 mod row;
 mod row_word;

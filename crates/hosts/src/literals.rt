@@ -18,6 +18,8 @@ impl Literals {
     pub fn new() -> Literals
         ensures { λ r. ⌜ r .entries ≡ Number (pos 0) ∷ (Number (pos 1) ∷ []) ⌝ }
     {
-        Literals { entries: [SheetValue::Number(0), SheetValue::Number(1)] }
+        Literals {
+            entries: [SheetValue::Number(0), SheetValue::Number(1)],
+        }
     }
 }

@@ -5,23 +5,19 @@ ghost use mathlib.Core.List.{[], _∷_};
 ghost use denote.Ref.{now};
 ghost use Rattle.std.specs.Options.{isSome};
 ghost use Rattle.std.specs.declared.option.Option.the-variants.{Some, None};
-ghost use Rattle.hosts.specs.Fault.{answer-of};
-ghost use Rattle.hosts.specs.RowWord.{first-bad, literal-0, literal-1};
-ghost use Rattle.hosts.specs.Rows.{row-of, row-at, rows-refused, row-allowed};
-ghost use Rattle.hosts.specs.RowsModel.{rows-model, number-value, known-number};
+ghost use Rattle.hosts.specs.RowWord.{answer-of, first-bad, literal-0, literal-1};
+ghost use Rattle.hosts.specs.Rows.{row-of, row-at, rows-refused, row-allowed, rows-model, number-value, known-number};
 ghost use Rattle.hosts.specs.RowsLaws.{rows-lawful};
 use crate::fault::HostFault;
 use crate::granted::contains;
 use crate::row::Row;
 use crate::row_word::LITERAL_0;
 use crate::row_word::LITERAL_1;
+use crate::row_word::LITERALS;
+use crate::row_word::NO_NAMES;
 use crate::row_word::NUMBER_LIMIT;
 use crate::row_word::count_fault;
 use host::Host;
-
-static LITERALS: [u32; 2] = [LITERAL_0, LITERAL_1];
-
-static NO_NAMES: [u32; 0] = [];
 
 #[derive(Drop)]
 pub struct Rows<'a> {
@@ -49,7 +45,11 @@ fn row_of_expression(rows: &[u32], e: u32) -> Option<Row>
     ensures { λ r. ⌜ r ≡ row-at (now (rows .entry)) e ⌝ }
 {
     let i = e as usize;
-    if i < rows.len() { decode(rows[i]) } else { None }
+    if i < rows.len() {
+        decode(rows[i])
+    } else {
+        None
+    }
 }
 
 // The number that an expression gives wherever it gives one, where that is known.
@@ -101,7 +101,10 @@ impl<'a> Rows<'a> {
         ensures rows { λ r. ⌜ r .rows .now ≡ literal-0 ∷ (literal-1 ∷ []) ⌝ }
         ensures names { λ r. ⌜ r .names .now ≡ [] ⌝ }
     {
-        Rows { rows: &LITERALS, names: &NO_NAMES }
+        Rows {
+            rows: &LITERALS,
+            names: &NO_NAMES,
+        }
     }
 
     // Makes the host of these rows and granted names in place of this one, which a refusal leaves as it was.

@@ -4,35 +4,32 @@ ghost use mathlib.Core.Bool.{true, false};
 ghost use mathlib.Core.List.{[], _∷_};
 ghost use denote.Ref.{now};
 ghost use lib.IntN.{pos};
-ghost use Rattle.std.specs.Finite.{nth};
 ghost use Rattle.std.specs.Options.{isSome};
 ghost use Rattle.std.specs.declared.option.Option.the-variants.{None};
 ghost use Rattle.hosts.specs.declared.sheet_value.SheetValue.the-variants.{Number};
-ghost use Rattle.hosts.specs.Fault.{answer-of};
-ghost use Rattle.hosts.specs.RowWord.{first-bad, literal-0, literal-1};
-ghost use Rattle.hosts.specs.SheetRows.{sheet-row-of, sheet-row-at, is-comparable, operand-allowed, kind-allowed, is-whole, literal-of-whole, sheet-row-allowed, sheet-refused};
-ghost use Rattle.hosts.specs.SheetValues.{sheet-meaning};
+ghost use Rattle.hosts.specs.RowWord.{answer-of, first-bad, literal-0, literal-1};
+ghost use Rattle.hosts.specs.SheetRows.{sheet-row-of, sheet-row-at, operand-allowed, kind-allowed, literal-of-whole, sheet-row-allowed, sheet-refused};
+ghost use Rattle.hosts.specs.SheetValues.{sheet-meaning, MeaningsOfValues};
 ghost use Rattle.hosts.specs.SheetModel.{sheet-expression, sheet-model, EachFromItsRow};
-ghost use Rattle.hosts.specs.SheetAnswers.{false-operand, entry-of, compared, end-value, is-command, end-effects, is-literal-row, Follows};
+ghost use Rattle.hosts.specs.SheetAnswers.{false-operand, Follows};
 ghost use Rattle.hosts.specs.SheetLaws.{sheet-lawful};
 use crate::fault::HostFault;
 use crate::granted::contains;
 use crate::literals::Literals;
-use crate::row_word::LITERAL_0;
-use crate::row_word::LITERAL_1;
-use crate::row_word::NUMBER_LIMIT;
+use crate::row_word::LITERALS;
+use crate::row_word::NO_NAMES;
 use crate::row_word::count_fault;
 use crate::sheet_row::SheetRow;
+use crate::sheet_row::decode;
+use crate::sheet_row::end_effects;
+use crate::sheet_row::end_value;
+use crate::sheet_row::entry_at;
+use crate::sheet_row::false_operand;
+use crate::sheet_row::is_literal_row;
+use crate::sheet_row::row_of_expression;
 use crate::sheet_value::SheetValue;
 use crate::sheet_value::SheetValueFromBool;
 use host::Host;
-
-// The number of an 'are equal' row is this many times the first operand, and the second.
-const OPERAND_LIMIT: u32 = 8192;
-
-static LITERALS: [u32; 2] = [LITERAL_0, LITERAL_1];
-
-static NO_NAMES: [u32; 0] = [];
 
 #[derive(Drop)]
 pub struct Sheet<'a> {
@@ -47,36 +44,6 @@ pub struct Sheet<'a> {
 struct Chain {
     end: u32,
     negated: bool,
-}
-
-fn decode(word: u32) -> Option<SheetRow>
-    ensures { λ r. ⌜ r ≡ sheet-row-of word ⌝ }
-{
-    let number = word % NUMBER_LIMIT;
-    match word / NUMBER_LIMIT {
-        1 => Some(SheetRow::Literal(number)),
-        2 => Some(SheetRow::Named(number)),
-        3 => Some(SheetRow::IsFalse(number)),
-        4 => Some(SheetRow::AreEqual(number / OPERAND_LIMIT, number % OPERAND_LIMIT)),
-        5 => Some(SheetRow::Command),
-        _ => None,
-    }
-}
-
-// The row of an expression, where there is one.
-fn row_of_expression(rows: &[u32], e: u32) -> Option<SheetRow>
-    ensures { λ r. ⌜ r ≡ sheet-row-at (now (rows .entry)) e ⌝ }
-{
-    let i = e as usize;
-    if i < rows.len() { decode(rows[i]) } else { None }
-}
-
-// The entry at an index, where there is one.
-fn entry_at(entries: &[SheetValue], n: u32) -> Option<SheetValue>
-    ensures { λ r. ⌜ r ≡ nth (now (entries .entry)) n ⌝ }
-{
-    let i = n as usize;
-    if i < entries.len() { Some(entries[i]) } else { None }
 }
 
 // Whether an operand of the 'are equal' row at index i is an earlier row of kind 1, 2 or 5.
@@ -110,26 +77,13 @@ fn is_row(rows: &[u32], entries: &[SheetValue], i: usize, word: u32) -> bool
     }
 }
 
-// Whether a row is a literal whose entry is the whole number 0.
-fn is_literal_0(entries: &[SheetValue], word: u32) -> bool
-    ensures { λ r. ⌜ r ≡ literal-of-whole (now (entries .entry)) 0 (sheet-row-of word) ⌝ }
+// Whether a row is a literal whose entry is this whole number.
+fn is_literal_of(entries: &[SheetValue], word: u32, whole: i32) -> bool
+    ensures { λ r. ⌜ r ≡ literal-of-whole (now (entries .entry)) whole (sheet-row-of word) ⌝ }
 {
     match decode(word) {
         Some(SheetRow::Literal(n)) => match entry_at(entries, n) {
-            Some(SheetValue::Number(number)) => number == 0,
-            _ => false,
-        },
-        _ => false,
-    }
-}
-
-// Whether a row is a literal whose entry is the whole number 1.
-fn is_literal_1(entries: &[SheetValue], word: u32) -> bool
-    ensures { λ r. ⌜ r ≡ literal-of-whole (now (entries .entry)) 1 (sheet-row-of word) ⌝ }
-{
-    match decode(word) {
-        Some(SheetRow::Literal(n)) => match entry_at(entries, n) {
-            Some(SheetValue::Number(number)) => number == 1,
+            Some(SheetValue::Number(number)) => number == whole,
             _ => false,
         },
         _ => false,
@@ -140,8 +94,8 @@ fn is_allowed(rows: &[u32], entries: &[SheetValue], i: usize, word: u32) -> bool
     ensures { λ r. ⌜ r ≡ sheet-row-allowed (now (rows .entry)) (now (entries .entry)) i word ⌝ }
 {
     match i {
-        0 => is_literal_0(entries, word),
-        1 => is_literal_1(entries, word),
+        0 => is_literal_of(entries, word, 0),
+        1 => is_literal_of(entries, word, 1),
         _ => is_row(rows, entries, i, word),
     }
 }
@@ -157,107 +111,15 @@ fn first_bad_row(rows: &[u32], entries: &[SheetValue]) -> Option<HostFault>
     None
 }
 
+// Why these rows and entries make no sheet. Where they make one, each expression is what its row says.
 fn fault(rows: &[u32], entries: &[SheetValue]) -> Option<HostFault>
-    ensures { λ r. ⌜ r ≡ sheet-refused (now (rows .entry)) (now (entries .entry)) ⌝ }
+    ensures answer { λ r. ⌜ r ≡ sheet-refused (now (rows .entry)) (now (entries .entry)) ⌝ }
+    ensures meaning { λ _. ⌜ (isSome (sheet-refused (now (rows .entry)) (now (entries .entry))) ≡ false → EachFromItsRow (now (rows .entry)) (now (entries .entry))) ⌝ }
+    ensures values { λ _. ⌜ MeaningsOfValues ⌝ }
 {
     match count_fault(rows) {
         Some(fault) => Some(fault),
         None => first_bad_row(rows, entries),
-    }
-}
-
-// The operand of an 'is false' row.
-fn false_operand(rows: &[u32], e: u32) -> Option<u32>
-    ensures { λ r. ⌜ r ≡ false-operand (sheet-row-at (now (rows .entry)) e) ⌝ }
-{
-    match row_of_expression(rows, e) {
-        Some(SheetRow::IsFalse(n)) => Some(n),
-        Some(SheetRow::Literal(_)) => None,
-        Some(SheetRow::Named(_)) => None,
-        Some(SheetRow::AreEqual(_, _)) => None,
-        Some(SheetRow::Command) => None,
-        None => None,
-    }
-}
-
-// The entry of a row that is one.
-fn entry_of_row(rows: &[u32], entries: &[SheetValue], e: u32) -> Option<SheetValue>
-    ensures { λ r. ⌜ r ≡ entry-of (now (entries .entry)) (sheet-row-at (now (rows .entry)) e) ⌝ }
-{
-    match row_of_expression(rows, e) {
-        Some(SheetRow::Literal(n)) => entry_at(entries, n),
-        Some(SheetRow::Named(n)) => entry_at(entries, n),
-        Some(SheetRow::IsFalse(_)) => None,
-        Some(SheetRow::AreEqual(_, _)) => None,
-        Some(SheetRow::Command) => None,
-        None => None,
-    }
-}
-
-// Whether two known values are strictly equal, where both are known.
-fn compared(a: Option<SheetValue>, b: Option<SheetValue>) -> Option<SheetValue>
-    ensures { λ r. ⌜ r ≡ compared a b ⌝ }
-{
-    match a {
-        Some(x) => match b {
-            Some(y) => Some(SheetValue::from(x.strictly_equals(&y))),
-            None => None,
-        },
-        None => None,
-    }
-}
-
-// The known value of a row that is no 'is false' row.
-fn end_value(rows: &[u32], entries: &[SheetValue], e: u32) -> Option<SheetValue>
-    ensures { λ r. ⌜ r ≡ end-value (now (rows .entry)) (now (entries .entry)) (sheet-row-at (now (rows .entry)) e) ⌝ }
-{
-    match row_of_expression(rows, e) {
-        Some(SheetRow::Literal(n)) => entry_at(entries, n),
-        Some(SheetRow::Named(n)) => entry_at(entries, n),
-        Some(SheetRow::IsFalse(_)) => None,
-        Some(SheetRow::AreEqual(r, s)) => compared(entry_of_row(rows, entries, r), entry_of_row(rows, entries, s)),
-        Some(SheetRow::Command) => None,
-        None => None,
-    }
-}
-
-fn is_command(rows: &[u32], e: u32) -> bool
-    ensures { λ r. ⌜ r ≡ is-command (sheet-row-at (now (rows .entry)) e) ⌝ }
-{
-    match row_of_expression(rows, e) {
-        Some(SheetRow::Literal(_)) => false,
-        Some(SheetRow::Named(_)) => false,
-        Some(SheetRow::IsFalse(_)) => false,
-        Some(SheetRow::AreEqual(_, _)) => false,
-        Some(SheetRow::Command) => true,
-        None => false,
-    }
-}
-
-// Whether a row that is no 'is false' row has effects.
-fn end_effects(rows: &[u32], e: u32) -> bool
-    ensures { λ r. ⌜ r ≡ end-effects (now (rows .entry)) (sheet-row-at (now (rows .entry)) e) ⌝ }
-{
-    match row_of_expression(rows, e) {
-        Some(SheetRow::Literal(_)) => false,
-        Some(SheetRow::Named(_)) => false,
-        Some(SheetRow::IsFalse(_)) => true,
-        Some(SheetRow::AreEqual(r, s)) => is_command(rows, r) || is_command(rows, s),
-        Some(SheetRow::Command) => true,
-        None => true,
-    }
-}
-
-fn is_literal_row(rows: &[u32], e: u32) -> bool
-    ensures { λ r. ⌜ r ≡ is-literal-row (sheet-row-at (now (rows .entry)) e) ⌝ }
-{
-    match row_of_expression(rows, e) {
-        Some(SheetRow::Literal(_)) => true,
-        Some(SheetRow::Named(_)) => false,
-        Some(SheetRow::IsFalse(_)) => false,
-        Some(SheetRow::AreEqual(_, _)) => false,
-        Some(SheetRow::Command) => false,
-        None => false,
     }
 }
 
@@ -268,20 +130,34 @@ impl<'a> Sheet<'a> {
         ensures entries { λ r. ⌜ r .entries .now ≡ Number (pos 0) ∷ (Number (pos 1) ∷ []) ⌝ }
         ensures names { λ r. ⌜ r .names .now ≡ [] ⌝ }
     {
-        Sheet { rows: &LITERALS, entries: &literals.entries, names: &NO_NAMES }
+        Sheet {
+            rows: &LITERALS,
+            entries: &literals.entries,
+            names: &NO_NAMES,
+        }
     }
 
     // Makes the host of these rows, entries and granted names in place of this one, which a refusal leaves as it was.
-    pub fn make(&mut self, rows: &'a [u32], entries: &'a [SheetValue], names: &'a [u32]) -> Result<(), HostFault>
+    pub fn make(
+        &mut self,
+        rows: &'a [u32],
+        entries: &'a [SheetValue],
+        names: &'a [u32],
+    ) -> Result<(), HostFault>
         ensures answer { λ r. ⌜ r ≡ answer-of (sheet-refused (now (rows .entry)) (now (entries .entry))) ⌝ }
         ensures made { λ _. ⌜ (isSome (sheet-refused (now (rows .entry)) (now (entries .entry))) ≡ false → (now (self .exit) .rows .now ≡ now (rows .entry)) × (now (self .exit) .entries .now ≡ now (entries .entry)) × (now (self .exit) .names .now ≡ now (names .entry))) ⌝ }
         ensures left { λ _. ⌜ (isSome (sheet-refused (now (rows .entry)) (now (entries .entry))) ≡ true → now (self .exit) ≡ now (self .entry)) ⌝ }
         ensures meaning { λ _. ⌜ (isSome (sheet-refused (now (rows .entry)) (now (entries .entry))) ≡ false → EachFromItsRow (now (rows .entry)) (now (entries .entry))) ⌝ }
+        ensures values { λ _. ⌜ MeaningsOfValues ⌝ }
     {
         match fault(rows, entries) {
             Some(fault) => Err(fault),
             None => {
-                *self = Sheet { rows, entries, names };
+                *self = Sheet {
+                    rows,
+                    entries,
+                    names,
+                };
                 Ok(())
             }
         }

@@ -2,7 +2,7 @@
 ghost use mathlib.Core.Path.{_≡_};
 ghost use Rattle.hosts.specs.Strict.{is-strictly-equal, to-boolean};
 ghost use Rattle.hosts.specs.SheetAnswers.{boolean-value};
-ghost use Rattle.hosts.specs.SheetValues.{language, EqualityOfMeanings, TruthOfMeaning};
+ghost use Rattle.hosts.specs.SheetValues.{language};
 use crate::text::Text;
 
 #[derive(Clone, Copy)]
@@ -26,8 +26,7 @@ pub impl From<bool> for SheetValue as SheetValueFromBool {
 impl SheetValue {
     // Strict equality, `===`.
     pub fn strictly_equals(&self, other: &SheetValue) -> bool
-        ensures answer { λ r. ⌜ r ≡ is-strictly-equal (language (now (self .entry))) (language (now (other .entry))) ⌝ }
-        ensures meanings { λ _. ⌜ EqualityOfMeanings ⌝ }
+        ensures { λ r. ⌜ r ≡ is-strictly-equal (language (now (self .entry))) (language (now (other .entry))) ⌝ }
     {
         match *self {
             SheetValue::Yes => match *other {
@@ -58,8 +57,7 @@ impl SheetValue {
 
     // Whether the value counts as true in a test.
     pub fn is_truthy(&self) -> bool
-        ensures answer { λ r. ⌜ r ≡ to-boolean (language (now (self .entry))) ⌝ }
-        ensures meanings { λ _. ⌜ TruthOfMeaning ⌝ }
+        ensures { λ r. ⌜ r ≡ to-boolean (language (now (self .entry))) ⌝ }
     {
         match *self {
             SheetValue::Yes => true,

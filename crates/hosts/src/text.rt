@@ -1,6 +1,7 @@
 // A text of 1 to 16 bytes, in two numbers and a length.
 ghost use Prim.Native.Nat.{_<_, _≤_, _^_};
 ghost use Rattle.hosts.specs.Bytes.{byte-count, half-count, join-halves, longest-text};
+
 pub mod bytes;
 
 // The first byte is the lowest of `low`, the ninth the lowest of `high`; bytes past the length are 0.

@@ -1,5 +1,5 @@
 -- Loops over words: a function of what is left of them, a step on and at the end; where a scan past a part ends.
-use Prim.Native.Nat.{ℕ, zero, suc, _+_, _-_, _<_, _≤_, min}
+use Prim.Native.Nat.{ℕ, zero, suc, _+_, _-_, _<_, _≤_, min, max}
 use mathlib.Core.Path.{_≡_, refl, sym, _∙_, ap, ap₂}
 use mathlib.Core.Logic.{⊎-elim}
 use mathlib.Core.List.{List, [], _∷_, _++_, map}
@@ -12,7 +12,7 @@ use Rattle.std.specs.declared.option.Option.{Option}
 use Rattle.words.specs.declared.word.Kind.the-variants as kind
 use Rattle.words.specs.Words.{word, read-word}
 use Rattle.words.specs.Format.{part-count, skip}
-use Rattle.words.specs.Scan.{OneCase, encode-one-case, EndsAt, Ends, OneTree, Unique}
+use Rattle.words.specs.Scan.{end-from, OneCase, encode-one-case, EndsAt, Ends, OneTree, Unique}
 use Rattle.words.specs.Tree.{Expression, Statements}
 use Rattle.words.specs.Encode.{encode-expression, encode-declarator, encode, encode-body}
 use Rattle.words.proofs.Skips.{Skips, skips-statement, skips-body, skips-case, skips-list, skips-declarator, skips-expression}
@@ -56,18 +56,22 @@ skips-some [] p = let e : _≡_ {A = ℕ} 0 1 = ap length (p .past 0 (word kind.
 skips-some (w ∷ ws) p = omega arith
 
 -- a scan past one part ends where the part ends
-ends-at : {Tree : Type 0} (words-of : Tree → List Word) → ((t : Tree) → Skips 1 (words-of t)) → (xs : List ℕ) (at r : ℕ) → at ≤ r → (at ≤ length xs → r ≤ length xs) →
+ends-at : {Tree : Type 0} (words-of : Tree → List Word) → ((t : Tree) → Skips 1 (words-of t)) → (xs : List ℕ) (at r : ℕ) → at ≤ r → r ≤ max at (length xs) →
     drop r (map read-word xs) ≡ skip 1 (drop at (map read-word xs)) → EndsAt words-of (map read-word xs) at r
 ends-at words-of p xs at r from within e t rest d =
     let tail : drop r (map read-word xs) ≡ rest = e ∙ ap (skip 1) d ∙ p t .past 0 rest in
     let a = simp (length-drop, length-map) at (ap length tail) in
     let b = simp (length-drop, length-map, length-append) at (ap length d) in
     let n = skips-some (words-of t) (p t) in
-    let l : at ≤ length xs = omega arith in
-    let m = within l in
     omega arith
 
-pub ends : (xs : List ℕ) (at r : ℕ) → at ≤ r → (at ≤ length xs → r ≤ length xs) →
+pub end-is : (xs : List ℕ) (at r : ℕ) → at ≤ r → r ≤ max at (length xs) →
+    drop r (map read-word xs) ≡ skip 1 (drop at (map read-word xs)) → r ≡ end-from (map read-word xs) at
+end-is xs at r from within e =
+    let a = simp (length-drop, length-map) at (ap length e) in
+    simp (length-drop, length-map) (omega arith)
+
+pub ends : (xs : List ℕ) (at r : ℕ) → at ≤ r → r ≤ max at (length xs) →
     drop r (map read-word xs) ≡ skip 1 (drop at (map read-word xs)) → Ends (map read-word xs) at r
 ends xs at r from within e = record {
   statement = ends-at encode skips-statement xs at r from within e;

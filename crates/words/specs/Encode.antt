@@ -1,4 +1,4 @@
--- The words of a tree: each word is followed by its parts, in written order.
+-- The words of a tree, by the table of docs/FORMAT.md: each word is followed by its parts, in written order.
 -- A script is one Body, so its words are `encode-body` of its statements.
 use Prim.Native.Nat.{ℕ, suc, _+_}
 use mathlib.Core.List.{List, [], _∷_, _++_, map}

@@ -1,5 +1,5 @@
--- The format as one table: which kinds may stand where, which numbers each kind may have, which parts
--- follow a word and what is around them. A word and its parts are written one after another.
+-- The format as one table, that of docs/FORMAT.md: which kinds may stand where, which numbers each kind may have,
+-- which parts follow a word and what is around them. A word and its parts are written one after another.
 use Prim.Native.Nat.{ℕ, zero, suc, _+_}
 use mathlib.Core.Bool.{Bool, true, false, cond}
 use mathlib.Core.List.{List, [], _∷_}

@@ -1,5 +1,6 @@
--- Statement places: the statements of a script, counted from 0 in written order, a statement before those
--- inside it, a Let of a list among them. Bodies, catches and cases have no place, nor has a For's declaration.
+-- Statement places (docs/FORMAT.md, "Places"): the statements of a script, counted from 0 in written order, a
+-- statement before those inside it, a Let of a list among them. Bodies, catches and cases have no place, nor has
+-- a For's declaration.
 use Prim.Native.Nat.{ℕ, zero, suc, _+_}
 use mathlib.Core.Bool.{Bool, true, false, cond}
 use mathlib.Core.List.{List, [], _∷_, _++_}

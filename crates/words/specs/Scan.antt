@@ -1,11 +1,12 @@
--- What a scan over words tells of the trees that the words begin with: where a part ends, and that
--- there is one tree at most. The words of a tree say where it ends, so what comes after is free.
-use Prim.Native.Nat.{ℕ, _+_}
+-- What a scan over words tells of the trees that the words begin with: where a part ends, and that there is
+-- one tree at most. The words of a tree say where it ends (docs/FORMAT.md, "Words"), so what comes after is free.
+use Prim.Native.Nat.{ℕ, _+_, _-_}
 use mathlib.Core.Path.{_≡_}
 use mathlib.Core.List.{List, _++_}
 use lib.ListN.{length, drop}
 use Rattle.std.specs.declared.option.Option.{Option}
 use Rattle.words.specs.declared.word.Word.{Word}
+use Rattle.words.specs.Format.{skip}
 use Rattle.words.specs.Tree.{Expression, Declarator, Statement, Statements}
 use Rattle.words.specs.Encode.{encode-expression, encode-declarator, encode, encode-body, encode-case}
 
@@ -15,6 +16,10 @@ OneCase = Option Expression × Statements
 
 abbrev pub encode-one-case : OneCase → List Word
 encode-one-case c = encode-case (c .0) (c .1)
+
+-- the word after the part that begins at `at`, the end of the words where they end before that
+abbrev pub end-from : List Word → ℕ → ℕ
+end-from ws at = at + (length (drop at ws) - length (skip 1 (drop at ws)))
 
 -- a tree that the words from `at` on begin with ends at r
 abbrev pub EndsAt : {Tree : Type 0} → (Tree → List Word) → List Word → ℕ → ℕ → Type 0

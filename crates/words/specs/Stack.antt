@@ -1,4 +1,5 @@
--- What a bounded stack holds, and how much it can hold.
+-- What a bounded stack over a lent slice holds, and how much it can hold. The definitions stand apart from the
+-- struct's own file, which they name.
 use Prim.Native.Nat.{ℕ}
 use mathlib.Core.List.{List}
 use denote.Ref.{now}
@@ -11,3 +12,7 @@ held s = take (s .len) (now (s .items))
 
 abbrev pub room : {T : Type 0} → Stack T → ℕ
 room s = length (now (s .items))
+
+-- all elements of the slice, those past the top among them
+abbrev pub slots : {T : Type 0} → Stack T → List T
+slots s = now (s .items)

@@ -1,5 +1,6 @@
--- What a script weighs, by its tree and by its words. A word weighs 1; statements other than Empty one more,
--- a Switch one more again, a case two more, and an If one more where its test is not just expression 0 or 1.
+-- What a script weighs, by its tree and by its words (docs/FORMAT.md, "Weight"). A word weighs 1; statements other
+-- than Empty one more, a Switch one more again, a case two more, and an If one more where its test is not just
+-- expression 0 or 1.
 use Prim.Native.Nat.{ℕ, _+_}
 use mathlib.Core.Bool.{Bool, false, cond}
 use mathlib.Core.List.{List, [], _∷_}

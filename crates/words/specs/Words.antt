@@ -1,4 +1,4 @@
--- Script words: a 32-bit word is a kind, its top 5 bits, and a number, its low 27 bits.
+-- Script words, as docs/FORMAT.md has them: a 32-bit word is a kind, its top 5 bits, and a number, its low 27.
 -- Kinds 1 to 27 are listed; 0 and 28 to 31 are not, and are all read as Unlisted.
 use Prim.Native.Nat.{ℕ, _+_, _*_, _/_, _%_, _^_}
 use mathlib.Core.Bool.{Bool, cond}

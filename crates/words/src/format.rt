@@ -1,9 +1,11 @@
 // The format as one table: which kinds may stand where, which numbers they may have, and which parts follow.
 ghost use mathlib.Core.Path.{_≡_};
 ghost use Prim.Native.Nat.{_+_, _<_, _≤_};
-ghost use Rattle.words.specs.Format.{from-to, admits, after, has-depth, allows, part, one, two, three, four, for-parts, try-parts, parts, part-count};
-ghost use Rattle.words.specs.declared.format.Surroundings.the-variants.{Same};
+ghost use Rattle.words.specs.Words.{has};
+ghost use Rattle.words.specs.Format.{from-to, admits, after, has-depth, allows};
 use crate::word::*;
+
+mod table;
 
 // A For's number is the sum of these, for the parts that it has.
 pub const FOR_EXPRESSION: u32 = 1;
@@ -31,6 +33,15 @@ const TRY_ALL: u32 = TRY_CATCH + TRY_FINALIZER;
 const FEWEST_DECLARATORS: u32 = 1;
 
 const SHORTEST_SEQUENCE: u32 = 2;
+
+// 1 where a number is a sum with such a part in it, else 0.
+pub(crate) fn has(part: u32, number: u32) -> u32
+    requires { ⌜ 0 < part ⌝ }
+    ensures value { λ r. ⌜ r ≡ has part number ⌝ }
+    ensures small { λ r. ⌜ r ≤ 1 ⌝ }
+{
+    number / part % 2
+}
 
 // What a part may be.
 #[derive(Clone, Copy)]
@@ -155,179 +166,11 @@ impl Kind {
             Kind::Var | Kind::Let => FEWEST_DECLARATORS <= number,
             Kind::If => number <= IF_ALTERNATE,
             Kind::For => number <= FOR_ALL
-                && number / FOR_EXPRESSION % 2 + number / FOR_DECLARATION % 2 <= 1,
+                && has(FOR_EXPRESSION, number) + has(FOR_DECLARATION, number) <= 1,
             Kind::Return => number <= RETURN_VALUE,
             Kind::Try => TRY_CATCH <= number && number <= TRY_ALL,
             Kind::Sequence => SHORTEST_SEQUENCE <= number,
             _ => true,
         }
-    }
-}
-
-const NO_PART: Part = Part {
-    what: What::Expression,
-    times: 0,
-    surroundings: Surroundings::Same,
-};
-
-impl Part {
-    fn new(what: What, times: u32, surroundings: Surroundings) -> Part
-        ensures { λ r. ⌜ r ≡ part what times surroundings ⌝ }
-    {
-        Part {
-            what,
-            times,
-            surroundings,
-        }
-    }
-}
-
-impl Parts {
-    fn one(first: Part) -> Parts
-        ensures { λ r. ⌜ r ≡ one first ⌝ }
-    {
-        Parts {
-            first,
-            second: NO_PART,
-            third: NO_PART,
-            fourth: NO_PART,
-        }
-    }
-
-    fn two(first: Part, second: Part) -> Parts
-        ensures { λ r. ⌜ r ≡ two first second ⌝ }
-    {
-        Parts {
-            first,
-            second,
-            third: NO_PART,
-            fourth: NO_PART,
-        }
-    }
-
-    fn three(first: Part, second: Part, third: Part) -> Parts
-        ensures { λ r. ⌜ r ≡ three first second third ⌝ }
-    {
-        Parts {
-            first,
-            second,
-            third,
-            fourth: NO_PART,
-        }
-    }
-
-    fn four(first: Part, second: Part, third: Part, fourth: Part) -> Parts
-        ensures { λ r. ⌜ r ≡ four first second third fourth ⌝ }
-    {
-        Parts {
-            first,
-            second,
-            third,
-            fourth,
-        }
-    }
-}
-
-// The parts of a For of this number.
-fn for_parts(n: u32) -> Parts
-    ensures { λ r. ⌜ r ≡ for-parts n ⌝ }
-{
-    Parts::four(
-        Part::new(What::Expression, n / FOR_EXPRESSION % 2, Surroundings::Same),
-        Part::new(
-            What::ForDeclaration,
-            n / FOR_DECLARATION % 2,
-            Surroundings::Same,
-        ),
-        Part::new(
-            What::Expression,
-            n / FOR_TEST % 2 + n / FOR_UPDATE % 2,
-            Surroundings::Same,
-        ),
-        Part::new(What::SingleStatement, 1, Surroundings::LoopBody),
-    )
-}
-
-// The parts of a Try of this number.
-fn try_parts(n: u32) -> Parts
-    ensures { λ r. ⌜ r ≡ try-parts n ⌝ }
-{
-    Parts::three(
-        Part::new(What::Body, 1, Surroundings::Nested),
-        Part::new(What::Catch, n / TRY_CATCH % 2, Surroundings::Nested),
-        Part::new(What::Body, n / TRY_FINALIZER % 2, Surroundings::Nested),
-    )
-}
-
-// The parts of a word with a test, a discriminant or a name before its other parts.
-fn led_by(what: What, rest: What, times: u32, surroundings: Surroundings) -> Parts
-    ensures { λ r. ⌜ r ≡ two (part what 1 Same) (part rest times surroundings) ⌝ }
-{
-    Parts::two(
-        Part::new(what, 1, Surroundings::Same),
-        Part::new(rest, times, surroundings),
-    )
-}
-
-impl Word {
-    // The parts that follow this word.
-    pub fn parts(self) -> Parts
-        ensures { λ r. ⌜ r ≡ parts self ⌝ }
-    {
-        let n = self.number;
-        match self.kind {
-            Kind::Block => Parts::one(Part::new(What::ListStatement, n, Surroundings::Nested)),
-            Kind::Expr | Kind::Throw | Kind::NameInit => Parts::one(Part::new(
-                What::Expression,
-                1,
-                Surroundings::Same,
-            )),
-            Kind::Var | Kind::Let => Parts::one(Part::new(What::Declarator, n, Surroundings::Same)),
-            Kind::If => Parts::three(
-                Part::new(What::Expression, 1, Surroundings::Same),
-                Part::new(What::SingleStatement, 1, Surroundings::Nested),
-                Part::new(What::SingleStatement, n, Surroundings::Nested),
-            ),
-            Kind::For => for_parts(n),
-            Kind::While => led_by(
-                What::Expression,
-                What::SingleStatement,
-                1,
-                Surroundings::LoopBody,
-            ),
-            Kind::Do => Parts::two(
-                Part::new(What::SingleStatement, 1, Surroundings::LoopBody),
-                Part::new(What::Expression, 1, Surroundings::Same),
-            ),
-            Kind::Switch => led_by(What::Expression, What::Case, n, Surroundings::SwitchCase),
-            Kind::Label => Parts::one(Part::new(What::SingleStatement, 1, Surroundings::LabelBody)),
-            Kind::Return => Parts::one(Part::new(What::Expression, n, Surroundings::Same)),
-            Kind::Try => try_parts(n),
-            Kind::Body | Kind::Catch | Kind::Default => Parts::one(Part::new(
-                What::ListStatement,
-                n,
-                Surroundings::Same,
-            )),
-            Kind::CatchName => led_by(
-                What::CatchParameter,
-                What::ListStatement,
-                n,
-                Surroundings::Same,
-            ),
-            Kind::Case => led_by(What::Expression, What::ListStatement, n, Surroundings::Same),
-            Kind::Sequence => Parts::one(Part::new(What::SequencePart, n, Surroundings::Same)),
-            _ => Parts::one(NO_PART),
-        }
-    }
-
-    // How many parts follow this word.
-    pub fn part_count(self) -> usize
-        ensures { λ r. ⌜ r ≡ part-count self ⌝ }
-    {
-        let parts = self.parts();
-        parts.first.times as usize
-            + parts.second.times as usize
-            + parts.third.times as usize
-            + parts.fourth.times as usize
     }
 }

@@ -1,11 +1,11 @@
 // Scans over the words of a script: where a part ends, what the script weighs, where its statements begin.
 ghost use mathlib.Core.Path.{_≡_};
 ghost use mathlib.Core.List.{map};
-ghost use Prim.Native.Nat.{_+_, _<_, _≤_};
+ghost use Prim.Native.Nat.{_+_, _<_, _≤_, max};
 ghost use lib.ListN.{length, drop, getD};
 ghost use Rattle.words.specs.Words.{read-word, max-words};
 ghost use Rattle.words.specs.Format.{skip};
-ghost use Rattle.words.specs.Scan.{Ends, Unique};
+ghost use Rattle.words.specs.Scan.{end-from, Ends, Unique};
 ghost use Rattle.words.specs.Tree.{Statements};
 ghost use Rattle.words.specs.Encode.{encode-body};
 ghost use Rattle.words.specs.Places.{declares, begins-statement, places-words, places-body, at-place};
@@ -15,8 +15,8 @@ use crate::word::*;
 
 // Where the part that begins at a word ends: the word after it, or the end of the words.
 pub fn end_of(words: &[u32], at: usize) -> usize
-    ensures from { λ r. ⌜ at ≤ r ⌝ }
-    ensures within { λ r. ⌜ (at ≤ length (now (words .entry)) → r ≤ length (now (words .entry))) ⌝ }
+    ensures value { λ r. ⌜ r ≡ end-from (map read-word (now (words .entry))) at ⌝ }
+    ensures within { λ r. ⌜ (at ≤ r) × (r ≤ max at (length (now (words .entry)))) ⌝ }
     ensures rest { λ r. ⌜ drop r (map read-word (now (words .entry))) ≡ skip 1 (drop at (map read-word (now (words .entry)))) ⌝ }
     ensures ends { λ r. ⌜ Ends (map read-word (now (words .entry))) at r ⌝ }
     ensures unique { λ _. ⌜ Unique (drop at (map read-word (now (words .entry)))) ⌝ }
@@ -115,7 +115,7 @@ pub fn weigh(words: &[u32]) -> u32
 fn declares(word: Word) -> bool
     ensures { λ r. ⌜ r ≡ declares word ⌝ }
 {
-    word.kind.is_between(Kind::For, Kind::For) && word.number / FOR_DECLARATION % 2 == 1
+    word.kind.is_between(Kind::For, Kind::For) && has(FOR_DECLARATION, word.number) == 1
 }
 
 // Whether a word begins a statement, given whether it is a For's declaration.

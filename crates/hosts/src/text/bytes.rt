@@ -6,9 +6,9 @@ ghost use lib.ListN.{length};
 ghost use Rattle.std.specs.Finite.{nth};
 ghost use Rattle.std.specs.Options.{mapped};
 ghost use Rattle.std.specs.declared.option.Option.the-variants.{Some, None};
-ghost use Rattle.hosts.specs.Lists.{equal-lists};
+ghost use Rattle.hosts.specs.Common.{equal-lists};
 ghost use Rattle.hosts.specs.Bytes.{bytes-of, text-length, byte-at, byte-count, half-length};
-ghost use Rattle.hosts.specs.Text.{text-bytes};
+ghost use Rattle.hosts.specs.SheetValues.{text-bytes};
 use crate::text::Text;
 
 const BYTE_COUNT: u64 = 256;
@@ -56,7 +56,11 @@ impl Text {
             return None;
         }
         if len <= HALF_LENGTH {
-            return Some(Text { low: number_of(bytes), high: 0, len });
+            return Some(Text {
+                low: number_of(bytes),
+                high: 0,
+                len,
+            });
         }
         let low = number_of(&bytes[0..HALF_LENGTH]);
         let high = number_of(&bytes[HALF_LENGTH..len]);
@@ -84,7 +88,7 @@ impl Text {
     }
 
     // Whether two texts have the same bytes.
-    pub fn equals(&self, other: &Text) -> bool
+    pub(crate) fn equals(&self, other: &Text) -> bool
         ensures { λ r. ⌜ r ≡ equal-lists (text-bytes (now (self .entry))) (text-bytes (now (other .entry))) ⌝ }
     {
         if self.len != other.len {

@@ -6,7 +6,7 @@ ghost use denote.Ref.{now, name};
 ghost use lib.ListN.{length, take};
 ghost use Rattle.std.specs.Options.{Cases as BySome};
 ghost use Rattle.std.specs.Results.{Cases as ByOk};
-ghost use Rattle.words.specs.Stack.{held, room};
+ghost use Rattle.words.specs.Stack.{held, room, slots};
 use crate::stack::Stack;
 
 // The last of the first n.
@@ -31,6 +31,7 @@ impl<'a, T: Copy + Drop> Stack<'a, T> {
     pub fn new(items: &'a mut [T]) -> Stack<'a, T>
         ensures empty { λ r. ⌜ held r ≡ [] ⌝ }
         ensures room { λ r. ⌜ room r ≡ length (now (items .entry)) ⌝ }
+        ensures slots { λ r. ⌜ slots r ≡ now (items .entry) ⌝ }
     {
         Stack { items, len: 0 }
     }
@@ -46,7 +47,7 @@ impl<'a, T: Copy + Drop> Stack<'a, T> {
         ensures cases { λ r. ⌜ ByOk r
             (λ _. held (now (self .exit)) ≡ held (now (self .entry)) ++ value ∷ [])
             (λ back. (back ≡ value) × (length (held (now (self .entry))) ≡ room (now (self .entry)))
-            × (held (now (self .exit)) ≡ held (now (self .entry)))) ⌝ }
+            × (held (now (self .exit)) ≡ held (now (self .entry))) × (slots (now (self .exit)) ≡ slots (now (self .entry)))) ⌝ }
         ensures room { λ _. ⌜ room (now (self .exit)) ≡ room (now (self .entry)) ⌝ }
         ensures lender { λ _. ⌜ name (now (self .exit) .items) ≡ name (now (self .entry) .items) ⌝ }
     {
@@ -65,6 +66,7 @@ impl<'a, T: Copy + Drop> Stack<'a, T> {
             ((held (now (self .entry)) ≡ []) × (held (now (self .exit)) ≡ []))
             (λ top. held (now (self .entry)) ≡ held (now (self .exit)) ++ top ∷ []) ⌝ }
         ensures room { λ _. ⌜ room (now (self .exit)) ≡ room (now (self .entry)) ⌝ }
+        ensures slots { λ _. ⌜ slots (now (self .exit)) ≡ slots (now (self .entry)) ⌝ }
         ensures lender { λ _. ⌜ name (now (self .exit) .items) ≡ name (now (self .entry) .items) ⌝ }
     {
         let n = self.len;
@@ -93,6 +95,7 @@ impl<'a, T: Copy + Drop> Stack<'a, T> {
     pub fn truncate(&mut self, n: usize)
         ensures held { λ _. ⌜ held (now (self .exit)) ≡ take n (held (now (self .entry))) ⌝ }
         ensures room { λ _. ⌜ room (now (self .exit)) ≡ room (now (self .entry)) ⌝ }
+        ensures slots { λ _. ⌜ slots (now (self .exit)) ≡ slots (now (self .entry)) ⌝ }
         ensures lender { λ _. ⌜ name (now (self .exit) .items) ≡ name (now (self .entry) .items) ⌝ }
     {
         self.len = least(self.len, n);

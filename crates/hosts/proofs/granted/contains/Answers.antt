@@ -4,7 +4,7 @@ use Prim.Native.Nat.{_+_}
 use lib.ListN.{drop}
 use borrow.Author.Tests.{eq-eqb, ne-eqb}
 use Rattle.std.proofs.shelf.Lists.{at-drop-more, at-drop-all}
-use Rattle.hosts.specs.Lists.{member}
+use Rattle.hosts.specs.Common.{member}
 use Rattle.hosts.proofs.granted.contains.Needs as need
 
 pub returns-then-each-name : need.returns-then-each-name

@@ -1,6 +1,6 @@
 use mathlib.Core.Path.{_≡_}
 use lib.ListN.{drop}
-use Rattle.hosts.specs.Lists.{member}
+use Rattle.hosts.specs.Common.{member}
 use Rattle.hosts.proofs.granted.contains.Given as given
 
 abbrev pub Inv-loop-each : given.InvT-loop-each

@@ -6,7 +6,7 @@ use lib.ListN.{length, drop, getD, length-drop}
 use Rattle.std.proofs.shelf.Lists.{length-map}
 use Rattle.words.specs.Words.{read-word}
 use Rattle.words.specs.Format.{part-count, skip}
-use Rattle.words.proofs.Walks.{words-more, words-all, skip-more, skip-none, skip-capped, ends, unique}
+use Rattle.words.proofs.Walks.{words-more, words-all, skip-more, skip-none, skip-capped, end-is, ends, unique}
 use Rattle.words.proofs.scan.end_of.Needs as need
 
 pub loop-due-again : need.loop-due-again
@@ -35,8 +35,8 @@ returns-else-end-words c =
     ∙ sym (words-all (skip (c .loop-due .due)) xs (c .loop-due .end) (c .if-end-words .left))
     ∙ c .loop-due .inv .2 in
     record {
-      from = c .loop-due .inv .0;
-      within = c .loop-due .inv .1;
+      value = end-is xs (c .args .at) (c .loop-due .end) (c .loop-due .inv .0) (c .loop-due .inv .1) rest;
+      within = (c .loop-due .inv .0, c .loop-due .inv .1);
       rest = rest;
       ends = ends xs (c .args .at) (c .loop-due .end) (c .loop-due .inv .0) (c .loop-due .inv .1) rest;
       unique = unique _;
@@ -48,8 +48,8 @@ returns-after-loop-due c =
     let rest : drop (c .loop-due .end) (map read-word xs) ≡ skip 1 (drop (c .args .at) (map read-word xs)) =
     ap (λ k. skip k (drop (c .loop-due .end) (map read-word xs))) (let z : 0 ≡ c .loop-due .due = omega arith in z) ∙ c .loop-due .inv .2 in
     record {
-      from = c .loop-due .inv .0;
-      within = c .loop-due .inv .1;
+      value = end-is xs (c .args .at) (c .loop-due .end) (c .loop-due .inv .0) (c .loop-due .inv .1) rest;
+      within = (c .loop-due .inv .0, c .loop-due .inv .1);
       rest = rest;
       ends = ends xs (c .args .at) (c .loop-due .end) (c .loop-due .inv .0) (c .loop-due .inv .1) rest;
       unique = unique _;

@@ -3,8 +3,9 @@ use Rattle.std.specs.Options.{mapped}
 use Rattle.std.specs.declared.option.Option.{Option}
 use Rattle.std.specs.declared.option.Option.the-variants.{Some}
 use Rattle.hosts.specs.declared.sheet_value.SheetValue.{SheetValue}
-use Rattle.hosts.specs.Strict.{LanguageValue}
 use Rattle.hosts.specs.SheetValues.{language, listed, sheet-meaning}
+use Rattle.hosts.specs.SheetRows.{sheet-row-at}
+use Rattle.hosts.specs.SheetAnswers.{end-value}
 use Rattle.hosts.proofs.SheetLemmas.{value-of-false, meaning-known, end-known}
 use Rattle.hosts.proofs.sheet.SheetHost.value.Needs as need
 
@@ -18,5 +19,5 @@ pub returns-in-None : need.returns-in-None
 returns-in-None c =
     let h = c .args .self .now in
     ap (mapped sheet-meaning) (c .end-value .ensures)
-    ∙ meaning-known _
+    ∙ meaning-known (end-value (h .rows .now) (h .entries .now) (sheet-row-at (h .rows .now) (c .args .e)))
     ∙ ap (mapped listed) (end-known (h .rows .now) (h .entries .now) (h .accepted) (c .args .e) (c .in-None .ensures tt))

@@ -6,7 +6,7 @@ use Rattle.std.specs.declared.option.Option.{Option}
 use Rattle.std.specs.declared.option.Option.the-variants.{Some}
 use Rattle.std.proofs.shelf.Maps.{nth-past}
 use Rattle.hosts.specs.Bytes.{byte-at, half-length, join-halves}
-use Rattle.hosts.specs.Text.{text-bytes}
+use Rattle.hosts.specs.SheetValues.{text-bytes}
 use Rattle.hosts.proofs.TextLemmas.{length-bytes, nth-bytes, byte-low, byte-high}
 use Rattle.hosts.proofs.text.Text.byte.Needs as need
 

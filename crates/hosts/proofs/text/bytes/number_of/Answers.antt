@@ -41,6 +41,7 @@ loop-i-again c =
     let here : i - 1 + 1 ≡ i = omega arith in
     let fits : b < byte-count = omega (arith, c .typed .bytes (i - 1)) in
     let n = c .loop-i .number * byte-count + b in
-    let left : drop (i - 1) xs ≡ b ∷ drop i xs = drop-more xs (i - 1) 0 within ∙ ap (λ (j : ℕ). b ∷ drop j xs) here in
-    (ap (λ (j : ℕ). bytes-of j n) longer ∙ bytes-step k (c .loop-i .number) b fits ∙ ap (λ (l : List ℕ). b ∷ l) (c .loop-i .inv .0) ∙ sym left,
-     rw longer (number-within (c .loop-i .number) b k (c .loop-i .inv .1) fits))
+    let left : drop (i - 1) xs ≡ b ∷ drop i xs = drop-more xs (i - 1) 0 within ∙ ap (λ (j : ℕ). b ∷ drop j xs) here in (
+      ap (λ (j : ℕ). bytes-of j n) longer ∙ bytes-step k (c .loop-i .number) b fits ∙ ap (λ (l : List ℕ). b ∷ l) (c .loop-i .inv .0) ∙ sym left,
+      rw longer (number-within (c .loop-i .number) b k (c .loop-i .inv .1) fits),
+    )

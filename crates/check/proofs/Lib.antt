@@ -1,0 +1,11 @@
+pub mod Heights
+pub mod Steps
+pub mod Exits
+pub mod Eats
+pub mod Kept
+pub mod Prefix
+pub mod Items
+pub mod Parts
+pub mod Built
+pub mod Accepted
+pub mod Lawful

@@ -1,0 +1,4 @@
+pub mod Check
+pub mod Held
+pub mod Rules
+pub mod Laws

@@ -1,0 +1,26 @@
+// Tests of the two hosts, at their limits and row by row.
+ghost use mathlib.Core.Path.{_≡_};
+ghost use lib.IntN.{pos};
+ghost use Rattle.hosts.specs.SheetModel.{largest-answer};
+ghost use Rattle.hosts_tests.specs.Examples.{Examples};
+
+#[cfg(test)]
+mod rows;
+#[cfg(test)]
+mod sheets;
+#[cfg(test)]
+mod values;
+
+// The largest answer that a command of a sheet gives as a whole number.
+pub fn largest_answer() -> i32
+    ensures answer { λ r. ⌜ r ≡ pos largest-answer ⌝ }
+    ensures examples { λ _. ⌜ Examples ⌝ }
+{
+    i32::MAX
+}
+
+// A row word.
+#[cfg(test)]
+fn word(kind: u32, number: u32) -> u32 {
+    kind.wrapping_mul(134217728).wrapping_add(number)
+}
