@@ -1,3 +1,2 @@
-pub mod TextLemmas
 pub mod RowLemmas
 pub mod SheetLemmas

@@ -17,16 +17,16 @@ use Rattle.std.proofs.shelf.Lists.{getD-past}
 use Rattle.std.proofs.shelf.Maps.{nth-getD}
 use Rattle.hosts.specs.declared.sheet_row.SheetRow.{SheetRow}
 use Rattle.hosts.specs.declared.sheet_row.SheetRow.the-variants.{Literal, Named, IsFalse, AreEqual, Command}
-use Rattle.hosts.specs.declared.sheet_value.SheetValue.{SheetValue}
-use Rattle.hosts.specs.declared.sheet_value.SheetValue.the-variants.{Yes}
+use Rattle.values.specs.declared.sheet_value.SheetValue.{SheetValue}
+use Rattle.values.specs.declared.sheet_value.SheetValue.the-variants.{Yes}
 use Rattle.hosts.specs.RowWord.{no-row, first-bad}
 use Rattle.hosts.specs.RowLaws.{accepted-rows, each-allowed}
-use Rattle.hosts.specs.Strict.{LanguageValue, boolean, to-boolean, is-strictly-equal}
+use Rattle.values.specs.Strict.{LanguageValue, boolean, to-boolean, is-strictly-equal}
 use Rattle.host.specs.Model.{Value}
-use Rattle.hosts.specs.SheetValues.{language, listed, sheet-meaning}
+use Rattle.values.specs.SheetValues.{language, boolean-value, listed, sheet-meaning}
 use Rattle.hosts.specs.SheetRows.{sheet-row-of, sheet-row-at, is-comparable, operand-allowed, kind-allowed, is-whole, literal-of-whole, sheet-row-allowed, sheet-refused}
 use Rattle.hosts.specs.SheetModel.{Expression, unknown-expression, entry-expression, false-expression, falsehood, equal-expression, known-equality, expression-of, sheet-expression, EachFromItsRow}
-use Rattle.hosts.specs.SheetAnswers.{boolean-value, false-operand, entry-of, compared, end-value, is-command, end-effects, is-literal-row, negate-when, known-truth, Follows}
+use Rattle.hosts.specs.SheetAnswers.{false-operand, entry-of, compared, end-value, is-command, end-effects, is-literal-row, negate-when, known-truth, Follows}
 use Rattle.hosts.specs.SheetLaws.{Before, rows-here, past-rows}
 
 -- what an accepted row says of what it looks at

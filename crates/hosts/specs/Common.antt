@@ -1,7 +1,6 @@
--- What both hosts share: membership in a list of names, equality of whole lists, what commands and
--- bindings do to a world, and how one action goes on after another.
+-- What both hosts share: membership in a list of names, what commands and bindings do to a world, and how one action goes on after another.
 use mathlib.Core.List.{List, [], _∷_, _++_}
-use mathlib.Core.Bool.{Bool, true, false, cond, _&&_}
+use mathlib.Core.Bool.{Bool, true, false, cond}
 use Prim.Native.Nat.{ℕ}
 use lib.Dec.{eqb}
 use Rattle.host.specs.Model.{World, Outcome, gives, throws, no-return}
@@ -10,13 +9,6 @@ use Rattle.host.specs.Model.{World, Outcome, gives, throws, no-return}
 abbrev pub member : ℕ → List ℕ → Bool
 member n [] = false
 member n (x ∷ xs) = cond (eqb x n) true (member n xs)
-
--- whether two lists have the same length and the same number at each place
-abbrev pub equal-lists : List ℕ → List ℕ → Bool
-equal-lists [] [] = true
-equal-lists [] (n ∷ ns) = false
-equal-lists (m ∷ ms) [] = false
-equal-lists (m ∷ ms) (n ∷ ns) = eqb m n && equal-lists ms ns
 
 -- the world with one more thing sent
 abbrev pub send : ℕ → World → World

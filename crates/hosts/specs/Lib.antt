@@ -3,9 +3,6 @@ pub mod RowWord
 pub mod RowLaws
 pub mod Rows
 pub mod RowsLaws
-pub mod Bytes
-pub mod Strict
-pub mod SheetValues
 pub mod SheetRows
 pub mod SheetModel
 pub mod SheetAnswers

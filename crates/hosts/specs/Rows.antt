@@ -10,11 +10,12 @@ use Rattle.std.specs.Options.{isSome, mapped}
 use Rattle.std.specs.declared.option.Option.{Option}
 use Rattle.std.specs.declared.option.Option.the-variants.{Some, None}
 use Rattle.host.specs.Model.{Model, Value, World, Outcome, gives, no-return}
+use Rattle.values.specs.Bytes.{equal-lists}
 use Rattle.hosts.specs.declared.fault.HostFault.{HostFault}
 use Rattle.hosts.specs.declared.row.Row.{Row}
 use Rattle.hosts.specs.declared.row.Row.the-variants.{Literal, NamedConstant, Command, NextAnswer, SentCount}
 use Rattle.hosts.specs.RowWord.{kind-of, number-of, literal-0, literal-1, no-row, first-bad, count-fault, or-else}
-use Rattle.hosts.specs.Common.{member, equal-lists, send, take-answer}
+use Rattle.hosts.specs.Common.{member, send, take-answer}
 
 -- kinds 1 to 5; any number may stand with kinds 4 and 5
 abbrev pub row-of-kind : ℕ → ℕ → Option Row

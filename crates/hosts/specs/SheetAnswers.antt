@@ -10,17 +10,11 @@ use Rattle.std.specs.declared.option.Option.{Option}
 use Rattle.std.specs.declared.option.Option.the-variants.{Some, None}
 use Rattle.hosts.specs.declared.sheet_row.SheetRow.{SheetRow}
 use Rattle.hosts.specs.declared.sheet_row.SheetRow.the-variants.{Literal, Named, IsFalse, AreEqual, Command}
-use Rattle.hosts.specs.declared.sheet_value.SheetValue.{SheetValue}
-use Rattle.hosts.specs.declared.sheet_value.SheetValue.the-variants.{Yes, No}
-use Rattle.hosts.specs.Strict.{is-strictly-equal, to-boolean}
-use Rattle.hosts.specs.SheetValues.{language}
+use Rattle.values.specs.declared.sheet_value.SheetValue.{SheetValue}
+use Rattle.values.specs.Strict.{is-strictly-equal, to-boolean}
+use Rattle.values.specs.SheetValues.{language, boolean-value}
 use Rattle.hosts.specs.SheetRows.{sheet-row-at}
 use Rattle.hosts.specs.SheetModel.{Expression}
-
--- the value of a sheet that a boolean is
-abbrev pub boolean-value : Bool → SheetValue
-boolean-value true = Yes
-boolean-value false = No
 
 -- the operand of an 'is false' row
 abbrev pub false-operand : Option SheetRow → Option ℕ

@@ -15,13 +15,13 @@ use Rattle.std.specs.declared.option.Option.the-variants.{Some, None}
 use Rattle.host.specs.Model.{Model, Lawful, Literal as LiteralOf, Unknown, Value, World, Outcome, gives, throws, no-return}
 use Rattle.hosts.specs.declared.sheet_row.SheetRow.{SheetRow}
 use Rattle.hosts.specs.declared.sheet_row.SheetRow.the-variants.{Literal, Named, IsFalse, AreEqual, Command}
-use Rattle.hosts.specs.declared.sheet_value.SheetValue.{SheetValue}
-use Rattle.hosts.specs.declared.sheet_value.SheetValue.the-variants.{Yes, No, Number, MinusZero, NotANumber, Text}
+use Rattle.values.specs.declared.sheet_value.SheetValue.{SheetValue}
+use Rattle.values.specs.declared.sheet_value.SheetValue.the-variants.{Yes, No, Number, MinusZero, NotANumber, Text}
 use Rattle.hosts.specs.RowWord.{no-row, first-bad}
 use Rattle.hosts.specs.RowLaws.{accepted-rows, each-allowed}
 use Rattle.hosts.specs.Common.{and-then, map-outcome}
-use Rattle.hosts.specs.Strict.{LanguageValue, boolean, number, text, integer, minus-zero, not-a-number, is-strictly-equal, to-boolean, same-integer}
-use Rattle.hosts.specs.SheetValues.{language, listed, read-value, truth-of, equality-of, sheet-truthy, sheet-equal, MeaningsOfValues}
+use Rattle.values.specs.Strict.{LanguageValue, boolean, number, text, integer, minus-zero, not-a-number, is-strictly-equal, to-boolean, same-integer}
+use Rattle.values.specs.SheetValues.{language, listed, read-value, truth-of, equality-of, sheet-truthy, sheet-equal, MeaningsOfValues}
 use Rattle.hosts.specs.SheetRows.{sheet-row-of, sheet-row-at, is-whole, literal-of-whole, sheet-row-allowed, sheet-refused}
 use Rattle.hosts.specs.SheetModel.{Expression, unknown-expression, entry-expression, false-expression, falsehood, equal-expression, equality, known-equality, command-expression, answer-outcome, expression-of, with-expression, with-rows, sheet-expression, sheet-model, without-last}
 

@@ -15,10 +15,10 @@ use Rattle.std.specs.declared.option.Option.the-variants.{Some, None}
 use Rattle.host.specs.Model.{Model, Value, World, Outcome, gives, throws, no-return}
 use Rattle.hosts.specs.declared.sheet_row.SheetRow.{SheetRow}
 use Rattle.hosts.specs.declared.sheet_row.SheetRow.the-variants.{Literal, Named, IsFalse, AreEqual, Command}
-use Rattle.hosts.specs.declared.sheet_value.SheetValue.{SheetValue}
+use Rattle.values.specs.declared.sheet_value.SheetValue.{SheetValue}
 use Rattle.hosts.specs.Common.{member, send, take-answer, and-then, map-outcome}
-use Rattle.hosts.specs.Strict.{LanguageValue, boolean, number, integer, not-a-number, is-strictly-equal, to-boolean}
-use Rattle.hosts.specs.SheetValues.{language, listed, sheet-truthy, sheet-equal}
+use Rattle.values.specs.Strict.{LanguageValue, boolean, number, integer, not-a-number, is-strictly-equal, to-boolean}
+use Rattle.values.specs.SheetValues.{language, listed, sheet-truthy, sheet-equal}
 use Rattle.hosts.specs.SheetRows.{sheet-row-of, sheet-row-at}
 
 -- An expression: the value that it gives wherever it gives one, where that is known; whether it may

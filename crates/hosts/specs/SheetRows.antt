@@ -12,10 +12,10 @@ use Rattle.std.specs.declared.option.Option.the-variants.{Some, None}
 use Rattle.hosts.specs.declared.fault.HostFault.{HostFault}
 use Rattle.hosts.specs.declared.sheet_row.SheetRow.{SheetRow}
 use Rattle.hosts.specs.declared.sheet_row.SheetRow.the-variants.{Literal, Named, IsFalse, AreEqual, Command}
-use Rattle.hosts.specs.declared.sheet_value.SheetValue.{SheetValue}
-use Rattle.hosts.specs.declared.sheet_value.SheetValue.the-variants.{Yes, No, Number, MinusZero, NotANumber, Text}
+use Rattle.values.specs.declared.sheet_value.SheetValue.{SheetValue}
+use Rattle.values.specs.declared.sheet_value.SheetValue.the-variants.{Yes, No, Number, MinusZero, NotANumber, Text}
 use Rattle.hosts.specs.RowWord.{kind-of, number-of, no-row, first-bad, count-fault, or-else}
-use Rattle.hosts.specs.Strict.{same-integer}
+use Rattle.values.specs.Strict.{same-integer}
 
 -- the number of a row of kind 4 is 8,192 times the first operand, and the second
 abbrev pub operand-limit : ℕ

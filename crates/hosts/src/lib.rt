@@ -7,5 +7,3 @@ mod row_word;
 pub mod rows;
 pub mod sheet;
 mod sheet_row;
-pub mod sheet_value;
-pub mod text;

@@ -3,9 +3,9 @@ ghost use mathlib.Core.Path.{_≡_};
 ghost use mathlib.Core.Bool.{true};
 ghost use mathlib.Core.List.{[], _∷_};
 ghost use lib.IntN.{pos};
-ghost use Rattle.hosts.specs.declared.sheet_value.SheetValue.the-variants.{Number};
+ghost use Rattle.values.specs.declared.sheet_value.SheetValue.the-variants.{Number};
 ghost use Rattle.hosts.specs.SheetRows.{are-zero-and-one};
-use crate::sheet_value::SheetValue;
+use values::sheet_value::SheetValue;
 
 // The whole numbers 0 and 1.
 #[derive(Drop)]

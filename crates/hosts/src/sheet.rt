@@ -6,10 +6,10 @@ ghost use denote.Ref.{now};
 ghost use lib.IntN.{pos};
 ghost use Rattle.std.specs.Options.{isSome};
 ghost use Rattle.std.specs.declared.option.Option.the-variants.{None};
-ghost use Rattle.hosts.specs.declared.sheet_value.SheetValue.the-variants.{Number};
+ghost use Rattle.values.specs.declared.sheet_value.SheetValue.the-variants.{Number};
 ghost use Rattle.hosts.specs.RowWord.{answer-of, first-bad, literal-0, literal-1};
 ghost use Rattle.hosts.specs.SheetRows.{sheet-row-of, sheet-row-at, operand-allowed, kind-allowed, literal-of-whole, sheet-row-allowed, sheet-refused};
-ghost use Rattle.hosts.specs.SheetValues.{sheet-meaning, MeaningsOfValues};
+ghost use Rattle.values.specs.SheetValues.{sheet-meaning, MeaningsOfValues};
 ghost use Rattle.hosts.specs.SheetModel.{sheet-expression, sheet-model, EachFromItsRow};
 ghost use Rattle.hosts.specs.SheetAnswers.{false-operand, Follows};
 ghost use Rattle.hosts.specs.SheetLaws.{sheet-lawful};
@@ -27,9 +27,9 @@ use crate::sheet_row::entry_at;
 use crate::sheet_row::false_operand;
 use crate::sheet_row::is_literal_row;
 use crate::sheet_row::row_of_expression;
-use crate::sheet_value::SheetValue;
-use crate::sheet_value::SheetValueFromBool;
 use host::Host;
+use values::sheet_value::SheetValue;
+use values::sheet_value::SheetValueFromBool;
 
 #[derive(Drop)]
 pub struct Sheet<'a> {

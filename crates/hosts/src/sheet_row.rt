@@ -4,8 +4,8 @@ ghost use Rattle.std.specs.Finite.{nth};
 ghost use Rattle.hosts.specs.SheetRows.{sheet-row-of, sheet-row-at};
 ghost use Rattle.hosts.specs.SheetAnswers.{false-operand, entry-of, compared, end-value, is-command, end-effects, is-literal-row};
 use crate::row_word::NUMBER_LIMIT;
-use crate::sheet_value::SheetValue;
-use crate::sheet_value::SheetValueFromBool;
+use values::sheet_value::SheetValue;
+use values::sheet_value::SheetValueFromBool;
 
 #[derive(Clone, Copy)]
 pub enum SheetRow {

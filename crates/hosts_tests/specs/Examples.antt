@@ -7,11 +7,11 @@ use mathlib.Core.Bool.{true, false}
 use Prim.Native.Nat.{ℕ}
 use lib.IntN.{pos}
 use Rattle.host.specs.Model.{Value, World, Outcome, gives, no-return}
-use Rattle.hosts.specs.declared.sheet_value.SheetValue.{SheetValue}
-use Rattle.hosts.specs.declared.sheet_value.SheetValue.the-variants.{Number}
+use Rattle.values.specs.declared.sheet_value.SheetValue.{SheetValue}
+use Rattle.values.specs.declared.sheet_value.SheetValue.the-variants.{Number}
 use Rattle.hosts.specs.RowWord.{literal-0, literal-1}
-use Rattle.hosts.specs.Strict.{boolean, number, integer, not-a-number}
-use Rattle.hosts.specs.SheetValues.{listed}
+use Rattle.values.specs.Strict.{boolean, number, integer, not-a-number}
+use Rattle.values.specs.SheetValues.{listed}
 use Rattle.hosts.specs.SheetModel.{largest-answer, sheet-model}
 
 -- kind 5

@@ -7,8 +7,8 @@ use hosts::fault::HostFaultPartialEq;
 use hosts::literals::Literals;
 use hosts::sheet::Sheet;
 use hosts::sheet::SheetHost;
-use hosts::sheet_value::SheetValue;
 use std::test::*;
+use values::sheet_value::SheetValue;
 
 const ENTRIES: [SheetValue; 4] = [
     SheetValue::Number(0),

@@ -9,7 +9,7 @@ use crate::problem::Problem;
 use crate::row::read_row;
 use crate::value::read_text;
 use crate::value::read_value;
-use hosts::sheet_value::SheetValue;
+use values::sheet_value::SheetValue;
 use std::alloc::Global;
 use words::word::NUMBER_LIMIT;
 

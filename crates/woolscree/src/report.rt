@@ -12,7 +12,7 @@ use hosts::rows::Rows;
 use hosts::rows::RowsHost;
 use hosts::sheet::Sheet;
 use hosts::sheet::SheetHost;
-use hosts::sheet_value::SheetValue;
+use values::sheet_value::SheetValue;
 use std::alloc::AllocError;
 use std::alloc::Global;
 use std::io;

@@ -1,7 +1,7 @@
 // Values of the two hosts as text.
 use crate::problem::Problem;
-use hosts::sheet_value::SheetValue;
-use hosts::text::Text;
+use values::sheet_value::SheetValue;
+use values::text::Text;
 use std::alloc::AllocError;
 use std::alloc::Global;
 

@@ -1,5 +1,5 @@
 use mathlib.Core.Path.{sym, _∙_}
-use Rattle.hosts.specs.SheetValues.{language}
+use Rattle.values.specs.SheetValues.{language}
 use Rattle.hosts.specs.SheetLaws.{meanings-of-values}
 use Rattle.hosts.proofs.sheet.SheetHost.same.Needs as need
 

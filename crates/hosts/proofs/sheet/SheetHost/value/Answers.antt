@@ -2,8 +2,8 @@ use mathlib.Core.Path.{ap, _∙_}
 use Rattle.std.specs.Options.{mapped}
 use Rattle.std.specs.declared.option.Option.{Option}
 use Rattle.std.specs.declared.option.Option.the-variants.{Some}
-use Rattle.hosts.specs.declared.sheet_value.SheetValue.{SheetValue}
-use Rattle.hosts.specs.SheetValues.{language, listed, sheet-meaning}
+use Rattle.values.specs.declared.sheet_value.SheetValue.{SheetValue}
+use Rattle.values.specs.SheetValues.{language, listed, sheet-meaning}
 use Rattle.hosts.specs.SheetRows.{sheet-row-at}
 use Rattle.hosts.specs.SheetAnswers.{end-value}
 use Rattle.hosts.proofs.SheetLemmas.{value-of-false, meaning-known, end-known}

@@ -1,9 +1,0 @@
-use mathlib.Core.Path.{sym, ap, _∙_}
-use Rattle.hosts.specs.declared.sheet_value.SheetValue.{SheetValue}
-use Rattle.hosts.specs.Strict.{to-boolean}
-use Rattle.hosts.specs.SheetValues.{language}
-use Rattle.hosts.proofs.TextLemmas.{text-true}
-use Rattle.hosts.proofs.sheet_value.SheetValue.is_truthy.Needs as need
-
-pub returns-in-Text : need.returns-in-Text
-returns-in-Text c = sym (ap (λ (v : SheetValue). to-boolean (language v)) (c .in-Text .is) ∙ text-true (c .in-Text .field-0))
