@@ -19,6 +19,14 @@ pub(crate) enum HostKind {
     Sheet,
 }
 
+// How far the reading of a job has come.
+#[derive(Clone, Copy, PartialEq, Eq)]
+pub(crate) enum Part {
+    BeforeScript,
+    InScript,
+    AfterScript,
+}
+
 // A name of a script, by its number.
 #[derive(Drop)]
 pub(crate) struct Name {
@@ -35,6 +43,14 @@ pub(crate) struct Job {
     pub(crate) rows: Vec<u32>,
     pub(crate) names: Vec<Name>,
     pub(crate) granted: Vec<u32>,
+    // The words of the script, if the job has one.
+    pub(crate) script: Vec<u32>,
+    pub(crate) part: Part,
+    // What the call is lent, where it is not just what the script needs.
+    pub(crate) space: Option<usize>,
+    pub(crate) used: Option<usize>,
+    pub(crate) working: Option<usize>,
+    pub(crate) dropped: Vec<u32>,
 }
 
 // Names begin with a letter or an underscore and go on with letters, digits and underscores.
@@ -81,6 +97,12 @@ impl Job {
             rows: Vec::new(heap),
             names: Vec::new(heap),
             granted: Vec::new(heap),
+            script: Vec::new(heap),
+            part: Part::BeforeScript,
+            space: None,
+            used: None,
+            working: None,
+            dropped: Vec::new(heap),
         }
     }
 
@@ -131,7 +153,7 @@ impl Job {
     }
 
     // The number of a name that a `name` line gave, or that is written as a number.
-    fn variable(&self, word: &str) -> Result<u32, Problem> {
+    pub(crate) fn variable(&self, word: &str) -> Result<u32, Problem> {
         for name in self.names.as_slice() {
             if name.text.as_str() == word {
                 return Ok(name.number);
@@ -151,8 +173,42 @@ impl Job {
         Ok(())
     }
 
+    fn drop_labels(&mut self, words: &[&str]) -> Result<(), LineFault> {
+        for word in words {
+            let label = read_number(word)?;
+            self.dropped.push(label)?;
+        }
+        Ok(())
+    }
+
+    // A line about the script or what its call is lent.
+    fn read_call(&mut self, words: &[&str]) -> Result<(), LineFault> {
+        match words {
+            ["space", n] => self.space = Some(read_length(n)?),
+            ["used", n] => self.used = Some(read_length(n)?),
+            ["working", n] => self.working = Some(read_length(n)?),
+            ["drop", labels @ ..] => self.drop_labels(labels)?,
+            ["script"] if self.part == Part::BeforeScript => self.part = Part::InScript,
+            _ => return Err(LineFault::Syntax(Problem::UnknownLine)),
+        }
+        Ok(())
+    }
+
+    fn read_script(&mut self, words: &[&str]) -> Result<(), LineFault> {
+        match words {
+            ["end"] => {
+                self.part = Part::AfterScript;
+                Ok(())
+            }
+            _ => self.add_words(words),
+        }
+    }
+
     fn read_line(&mut self, heap: Global, text: &str) -> Result<(), LineFault> {
         let line = Line::read(heap, text)?;
+        if self.part == Part::InScript {
+            return self.read_script(line.words.as_slice());
+        }
         match (line.words.as_slice(), line.text) {
             ([], None) => Ok(()),
             (["host", "rows"], None) => self.set_host(HostKind::Rows),
@@ -162,6 +218,7 @@ impl Job {
             (["row", _, rest @ ..], None) => self.add_row(rest),
             (["name", name, number], None) => self.name_variable(heap, name, number),
             (["grant", names @ ..], None) => self.grant(names),
+            (words, None) => self.read_call(words),
             _ => Err(LineFault::Syntax(Problem::UnknownLine)),
         }
     }
@@ -183,6 +240,9 @@ impl Job {
                 return Err(JobFault { line: number, fault });
             }
         }
+        if job.part == Part::InScript {
+            return Err(JobFault { line: number, fault: LineFault::Syntax(Problem::OpenScript) });
+        }
         Ok(job)
     }
 }
@@ -192,5 +252,13 @@ pub(crate) fn read_number(word: &str) -> Result<u32, Problem> {
     match word.parse::<u32>() {
         Ok(number) if number < NUMBER_LIMIT => Ok(number),
         _ => Err(Problem::BadNumber),
+    }
+}
+
+// How many words or labels there are.
+fn read_length(word: &str) -> Result<usize, Problem> {
+    match word.parse::<usize>() {
+        Ok(length) => Ok(length),
+        Err(_) => Err(Problem::BadNumber),
     }
 }

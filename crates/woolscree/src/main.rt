@@ -1,9 +1,12 @@
-// Woolscree: reads jobs, makes their hosts and prints what they answer.
+// Woolscree: reads jobs, makes their hosts, loads their scripts and prints what it finds.
 mod job;
 mod line;
+mod pretty;
 mod problem;
 mod report;
 mod row;
+mod script;
+mod summary;
 mod value;
 
 use job::Job;
@@ -17,7 +20,7 @@ use std::io::Read;
 // With this argument a refused job counts as reported: the program still ends with status 0.
 const REPORT: &str = "--report";
 
-// Reads one job and prints its table; whether its host was made.
+// Reads one job and prints what it comes to; whether all of it was accepted.
 fn run_job(rt: &LibcRuntime, text: &str) -> Result<bool, AnyError> {
     match Job::read(rt.alloc(), text) {
         Ok(job) => match job.host {

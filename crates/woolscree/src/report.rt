@@ -1,10 +1,17 @@
 // What the program prints.
 use crate::job::HostKind;
 use crate::job::Job;
+use crate::job::Part;
+use crate::job::PartPartialEq;
 use crate::row::expression_text;
+use crate::summary::print_script;
 use crate::value::NumberShown;
 use crate::value::SheetValueShown;
 use crate::value::Shown;
+use calls::fault::CallFault;
+use calls::load::load;
+use check::fault::ReaderFault;
+use check::fault::TreeFault;
 use host::Host;
 use hosts::fault::HostFault;
 use hosts::literals::Literals;
@@ -104,14 +111,78 @@ where
     print_granted(rt, job, host)
 }
 
-fn print_rows<'a>(rt: &LibcRuntime, job: &Job, rows: &'a [u32], names: &'a [u32]) -> io::Result<Option<HostFault>> {
+fn call_reason(fault: CallFault) -> &'static str {
+    match fault {
+        CallFault::Used(_) => "the used length is 0 or above the space",
+        CallFault::TooLong(_) => "a script has at most 16,000 words",
+        CallFault::WorkingWords(_) => "there must be four working words for each word used",
+        CallFault::Labels(_) => "at most 16 labels can be dropped",
+        CallFault::Tree(TreeFault::Reader(ReaderFault::WordDue(_))) => "a word is due here, and none is left",
+        CallFault::Tree(TreeFault::Format(_)) => "a word of this kind and number may not stand here",
+        CallFault::Tree(TreeFault::Depth(_)) => "more than 100 statements are around this one",
+        CallFault::Tree(TreeFault::Expression(_)) => "the host has no such expression",
+        CallFault::Tree(TreeFault::Jump(_)) => "the jump has no target around it, or the label stands inside itself",
+        CallFault::Tree(TreeFault::Reader(ReaderFault::WordsLeft(_))) => "the script has ended, and words are left over",
+        CallFault::NoSuchPlace(_) => "the script has no statement at this place",
+        CallFault::NoAlternate(_) => "a stub is due for an alternate that is not there",
+    }
+}
+
+// How many working words a script needs for each word used.
+const WORKING_SHARE: usize = 4;
+
+// So many words, the script's first and zeros after them.
+fn lent_space(heap: Global, script: &[u32], length: usize) -> Result<Vec<u32>, AllocError> {
+    let mut space = Vec::new(heap);
+    for i in 0..length {
+        let word = script.get(i).copied().unwrap_or(0);
+        space.push(word)?;
+    }
+    Ok(space)
+}
+
+// Loads the job's script and prints what it is, or the refusal; whether it was accepted.
+fn print_load<H: Host>(rt: &LibcRuntime, job: &Job, host: &H) -> io::Result<bool> {
+    let script = job.script.as_slice();
+    let used = job.used.unwrap_or(script.len());
+    let mut space = lent_space(rt.alloc(), script, job.space.unwrap_or(script.len()))?;
+    let mut working = vec![in rt.alloc(); 0u32; job.working.unwrap_or(used.saturating_mul(WORKING_SHARE))]?;
+    match load(host, space.as_mut_slice(), used, working.as_mut_slice(), job.dropped.as_slice()) {
+        Ok(record) => {
+            let words = space.as_slice().get(0..used).unwrap_or(&[]);
+            print_script(rt, job, words, record)?;
+            Ok(true)
+        }
+        Err(fault) => {
+            print_refusal(rt, fault.refusal(), call_reason(fault))?;
+            Ok(false)
+        }
+    }
+}
+
+// What became of a job: its host was refused, or its script was, or neither.
+#[derive(Clone, Copy)]
+enum Made {
+    Refused(HostFault),
+    Loaded(bool),
+}
+
+fn print_made<H: Host>(rt: &LibcRuntime, job: &Job, host: &H, kind: &str) -> io::Result<Made>
+where
+    H::Value: Shown,
+{
+    print_table(rt, job, host, kind)?;
+    if job.part == Part::BeforeScript {
+        return Ok(Made::Loaded(true));
+    }
+    Ok(Made::Loaded(print_load(rt, job, host)?))
+}
+
+fn print_rows<'a>(rt: &LibcRuntime, job: &Job, rows: &'a [u32], names: &'a [u32]) -> io::Result<Made> {
     let mut host: Rows<'a> = Rows::least();
     match host.make(rows, names) {
-        Ok(()) => {
-            print_table(rt, job, &host, "row")?;
-            Ok(None)
-        }
-        Err(fault) => Ok(Some(fault)),
+        Ok(()) => print_made(rt, job, &host, "row"),
+        Err(fault) => Ok(Made::Refused(fault)),
     }
 }
 
@@ -122,29 +193,26 @@ fn print_sheet<'a>(
     rows: &'a [u32],
     entries: &'a [SheetValue],
     names: &'a [u32],
-) -> io::Result<Option<HostFault>> {
+) -> io::Result<Made> {
     let mut host: Sheet<'a> = Sheet::least(literals);
     match host.make(rows, entries, names) {
-        Ok(()) => {
-            print_table(rt, job, &host, "sheet")?;
-            Ok(None)
-        }
-        Err(fault) => Ok(Some(fault)),
+        Ok(()) => print_made(rt, job, &host, "sheet"),
+        Err(fault) => Ok(Made::Refused(fault)),
     }
 }
 
-// Makes the job's host and prints its table, or the refusal; whether it was made.
+// Makes the job's host, prints its table and loads the script, or prints the refusal; whether all was accepted.
 pub(crate) fn print_job(rt: &LibcRuntime, job: &Job, kind: HostKind) -> io::Result<bool> {
     let rows = job.rows.as_slice();
     let names = job.granted.as_slice();
     let literals = Literals::new();
-    let refused = match kind {
+    let made = match kind {
         HostKind::Rows => print_rows(rt, job, rows, names)?,
         HostKind::Sheet => print_sheet(rt, job, &literals, rows, job.entries.as_slice(), names)?,
     };
-    match refused {
-        None => Ok(true),
-        Some(fault) => {
+    match made {
+        Made::Loaded(accepted) => Ok(accepted),
+        Made::Refused(fault) => {
             print_refusal(rt, fault.refusal(), host_reason(fault))?;
             Ok(false)
         }
