@@ -3,15 +3,17 @@
 mod shape;
 
 use calls::load::load;
-use hosts::rows::Rows;
-use hosts::rows::RowsHost;
+use rows::Rows;
+use rows::RowsHost;
 use shape::Shape;
 use std::env;
 use std::error::AnyError;
 use std::time::Instant;
 
 const TIME: &str = "--time";
+
 const LENGTHS: [usize; 3] = [1_000, 4_000, 16_000];
+
 const WORKING_SHARE: usize = 4;
 
 // How many loads are timed together.
@@ -54,7 +56,10 @@ fn print_shape(rt: &LibcRuntime, shape: Shape, timed: bool) -> Result<(), AnyErr
             }
             let rate = 1_000_000_000_000 / each.max(1);
             let ratio = each.saturating_mul(100) / shortest.max(1);
-            println!(rt, "  {taken} ns a load, {rate} words a second, {ratio} % of the time per word of the shortest")?;
+            println!(
+                rt,
+                "  {taken} ns a load, {rate} words a second, {ratio} % of the time per word of the shortest"
+            )?;
         }
     }
     Ok(())

@@ -10,8 +10,8 @@ use Rattle.std.specs.declared.result.Result.{Result}
 use Rattle.std.specs.declared.result.Result.the-variants.{Ok, Err}
 use Rattle.words.specs.Words.{read-word}
 use Rattle.words.specs.Words.{max-words}
-use Rattle.words.specs.Weight.{weight-words}
-use Rattle.words.proofs.Weights.{weight-of-body}
+use Rattle.scan.specs.Weight.{weight-words}
+use Rattle.scan.proofs.Weights.{weight-of-body}
 use Rattle.check.specs.declared.fault.TreeFault.{TreeFault}
 use Rattle.check.specs.Check.{Verdict, check-script}
 use Rattle.check.proofs.Lawful.{laws}
@@ -44,7 +44,7 @@ was-refused (Ok x) (Ok y) n f h e = absurd (let z : _≡_ {A = ℕ} 0 1 = cc in 
 refused-by : (space : ℕ) (used working labels : ℕ) (v : Verdict) (n : Record) (f : TreeFault) → recorded (checked (lengths-refused space used working labels) v) n ≡ Err (Tree f) → v ≡ Err f
 refused-by space used working labels v n f e =
     was-refused (lengths-refused space used working labels) v n f
-      (λ h. length-fault (eqb used 0 || ltb space used) (ltb max-words used) (ltb working (working-share * used)) (ltb most-labels labels) used working labels f h) e
+    (λ h. length-fault (eqb used 0 || ltb space used) (ltb max-words used) (ltb working (working-share * used)) (ltb most-labels labels) used working labels f h) e
 
 pub load-laws : (count : ℕ) (space : List ℕ) (used working labels : ℕ) → LoadLaws count space used working labels
 load-laws count space used working labels =
@@ -57,6 +57,7 @@ load-laws count space used working labels =
       unique = w .unique;
       weight = λ ss e. ap weight-words e ∙ weight-of-body ss;
       prefix = λ before word after f e p r other length′ working′ labels′ rest l t.
-        let here = refused-by (length space) used working labels v n f r in
-        let there = w .prefix before word after rest f e p here in
-        ap₂ (λ x y. recorded (checked x y) (new-record other length′)) l (ap (λ ws. check-script count (map read-word ws)) t ∙ there) }
+          let here = refused-by (length space) used working labels v n f r in
+          let there = w .prefix before word after rest f e p here in
+          ap₂ (λ x y. recorded (checked x y) (new-record other length′)) l (ap (λ ws. check-script count (map read-word ws)) t ∙ there);
+    }

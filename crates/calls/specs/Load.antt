@@ -8,7 +8,7 @@ use Rattle.std.specs.declared.result.Result.{Result}
 use Rattle.std.specs.declared.result.Result.the-variants.{Ok, Err}
 use Rattle.words.specs.declared.word.Word.{Word}
 use Rattle.words.specs.Words.{read-word, max-words}
-use Rattle.words.specs.Weight.{weight-words}
+use Rattle.scan.specs.Weight.{weight-words}
 use Rattle.check.specs.Check.{Verdict, check-script}
 use Rattle.calls.specs.declared.fault.CallFault.{CallFault}
 use Rattle.calls.specs.declared.fault.CallFault.the-variants.{Used, TooLong, WorkingWords, Labels, Tree}

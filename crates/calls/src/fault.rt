@@ -37,16 +37,27 @@ pub impl From<TreeFault> for CallFault as CallFaultFromTree {
 
 // The numbers of the refusals.
 const USED: u32 = 1;
+
 const TOO_LONG: u32 = 2;
+
 const WORKING_WORDS: u32 = 3;
+
 const LABELS: u32 = 4;
+
 const WORD_DUE: u32 = 5;
+
 const FORMAT: u32 = 6;
+
 const DEPTH: u32 = 7;
+
 const EXPRESSION: u32 = 8;
+
 const JUMP: u32 = 9;
+
 const WORDS_LEFT: u32 = 10;
+
 const NO_SUCH_PLACE: u32 = 11;
+
 const NO_ALTERNATE: u32 = 12;
 
 impl CallFault {
@@ -54,7 +65,11 @@ impl CallFault {
     pub fn refusal(self) -> Refusal
         ensures { λ r. ⌜ r ≡ refusal-of self ⌝ }
     {
-        Refusal { number: self.number(), layer: self.layer(), place: self.place() }
+        Refusal {
+            number: self.number(),
+            layer: self.layer(),
+            place: self.place(),
+        }
     }
 
     fn number(self) -> u32
@@ -80,7 +95,10 @@ impl CallFault {
         ensures { λ r. ⌜ r ≡ layer-of self ⌝ }
     {
         match self {
-            CallFault::Used(_) | CallFault::TooLong(_) | CallFault::WorkingWords(_) | CallFault::Labels(_) => Layer::Space,
+            CallFault::Used(_)
+            | CallFault::TooLong(_)
+            | CallFault::WorkingWords(_)
+            | CallFault::Labels(_) => Layer::Space,
             CallFault::Tree(TreeFault::Reader(_)) => Layer::Reader,
             CallFault::Tree(TreeFault::Expression(_)) => Layer::Host,
             CallFault::Tree(_) => Layer::Tree,

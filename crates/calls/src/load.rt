@@ -10,11 +10,12 @@ use crate::fault::CallFaultFromTree;
 use crate::record::Record;
 use check::script::check;
 use host::Host;
-use words::scan::MAX_WORDS;
-use words::scan::weigh;
+use scan::weigh;
+use words::word::MAX_WORDS;
 
 // How many working words there must be for each word used, and how many labels to drop there may be.
 const WORKING_SHARE: usize = 4;
+
 const MOST_LABELS: usize = 16;
 
 // Refusals 1 to 4, in that order.
@@ -39,11 +40,16 @@ fn check_lengths(space: usize, used: usize, working: usize, labels: usize) -> Re
 // Does nothing when run: it carries the laws into the contract of its caller.
 fn keep_laws<H: Host>(_host: &H, _space: &[u32], _used: usize, _working: usize, _labels: usize)
     ensures { λ _. ⌜ LoadLaws (H·Host .model (now («_host» .entry)) .count) (now («_space» .entry)) «_used» «_working» «_labels» ⌝ }
-{
-}
+{}
 
 // Checks a script and answers its new record; the working words are 0 afterwards. A refusal changes nothing.
-pub fn load<H: Host>(host: &H, space: &mut [u32], used: usize, working: &mut [u32], labels: &[u32]) -> Result<Record, CallFault>
+pub fn load<H: Host>(
+    host: &H,
+    space: &mut [u32],
+    used: usize,
+    working: &mut [u32],
+    labels: &[u32],
+) -> Result<Record, CallFault>
     ensures answer { λ r. ⌜ r ≡ load-answer (H·Host .model (now (host .entry)) .count) (now (space .entry)) used (length (now (working .entry))) (length (now (labels .entry))) ⌝ }
     ensures space { λ _. ⌜ now (space .exit) ≡ now (space .entry) ⌝ }
     ensures working { λ r. ⌜ now (working .exit) ≡ cond (isOk r) (replicate (length (now (working .entry))) 0) (now (working .entry)) ⌝ }
@@ -55,5 +61,9 @@ pub fn load<H: Host>(host: &H, space: &mut [u32], used: usize, working: &mut [u3
     check(host.count(), words)?;
     let weight = weigh(words);
     working.fill(0);
-    Ok(Record { used: used as u32, weight, changes: 0 })
+    Ok(Record {
+        used: used as u32,
+        weight,
+        changes: 0,
+    })
 }

@@ -2,8 +2,8 @@
 use calls::fault::CallFault;
 use calls::load::load;
 use calls::record::Record;
-use hosts::rows::Rows;
-use hosts::rows::RowsHost;
+use rows::Rows;
+use rows::RowsHost;
 use std::alloc::Global;
 use std::test::*;
 use words::refusal::Layer;
@@ -23,12 +23,24 @@ pub(crate) fn word(kind: Kind, number: u32) -> u32 {
 }
 
 // A load on a copy of the script, and whether it left all working words as its answer says.
-pub(crate) fn load_lent(heap: Global, script: &[u32], used: usize, working: usize, labels: usize) -> Result<Result<Record, CallFault>, Fail> {
+pub(crate) fn load_lent(
+    heap: Global,
+    script: &[u32],
+    used: usize,
+    working: usize,
+    labels: usize,
+) -> Result<Result<Record, CallFault>, Fail> {
     let host = Rows::least();
     let mut space = script.to_vec(heap)?;
     let mut room = vec![in heap; MARK; working]?;
     let dropped = vec![in heap; 0u32; labels]?;
-    let answer = load(&host, space.as_mut_slice(), used, room.as_mut_slice(), dropped.as_slice());
+    let answer = load(
+        &host,
+        space.as_mut_slice(),
+        used,
+        room.as_mut_slice(),
+        dropped.as_slice(),
+    );
     let left = if answer.is_ok() { 0 } else { MARK };
     for each in room.as_slice() {
         check_eq(*each, left)?;
@@ -53,9 +65,21 @@ pub(crate) fn accepted(answer: Result<Record, CallFault>) -> Result<Record, Fail
     }
 }
 
-pub(crate) fn refused(answer: Result<Record, CallFault>, number: u32, layer: Layer, place: usize) -> Result<(), Fail> {
+pub(crate) fn refused(
+    answer: Result<Record, CallFault>,
+    number: u32,
+    layer: Layer,
+    place: usize,
+) -> Result<(), Fail> {
     match answer {
         Ok(_) => Err(Fail::new("accepted")),
-        Err(fault) => check_eq(fault.refusal(), Refusal { number, layer, place }),
+        Err(fault) => check_eq(
+            fault.refusal(),
+            Refusal {
+                number,
+                layer,
+                place,
+            },
+        ),
     }
 }

@@ -163,32 +163,40 @@ item-of a n a-catch-name p r =
     record {
       item = record { name = Some (m .item); list = l .list };
       words = after-word kind.CatchName (l .many) (m .words ∙ ap (λ v. word kind.Name (m .item) ∷ v) (then (encode-list (l .list)) (l .words) (two-read (part what.CatchParameter 1 Same) (part what.ListStatement n Same) r)));
-      holds = l .keeps }
+      holds = l .keeps;
+    }
 item-of a n {ws} {rest} a-case p r =
     let e = only (r .first) in
     let l = a-list (r .second) in
     record {
       item = one-case (Some (e .item)) (l .list);
       words = after-word kind.Case (l .many) (then-two (encode-expression (e .item)) (encode-list (l .list)) rest (e .words) (then (encode-list (l .list)) (l .words) (two-read (part what.Expression 1 Same) (part what.ListStatement n Same) r)));
-      holds = (leb-true _ _ (p .shallow), e .holds, l .keeps) }
+      holds = (leb-true _ _ (p .shallow), e .holds, l .keeps);
+    }
 item-of a n a-default p r =
     let l = a-list (r .first) in
     record {
-      item = one-case None (l .list); words = after-word kind.Default (l .many) (then (encode-list (l .list)) (l .words) (one-read (part what.ListStatement n Same) r));
-      holds = (leb-true _ _ (p .shallow), tt, l .keeps) }
+      item = one-case None (l .list);
+      words = after-word kind.Default (l .many) (then (encode-list (l .list)) (l .words) (one-read (part what.ListStatement n Same) r));
+      holds = (leb-true _ _ (p .shallow), tt, l .keeps);
+    }
 item-of a n {ws} {rest} a-later-case p r =
     let e = only (r .first) in
     let l = a-list (r .second) in
     record {
       item = one-case (Some (e .item)) (l .list);
       words = after-word kind.Case (l .many) (then-two (encode-expression (e .item)) (encode-list (l .list)) rest (e .words) (then (encode-list (l .list)) (l .words) (two-read (part what.Expression 1 Same) (part what.ListStatement n Same) r)));
-      holds = (leb-true _ _ (p .shallow), e .holds, l .keeps) }
+      holds = (leb-true _ _ (p .shallow), e .holds, l .keeps);
+    }
 
 cons : {c m : ℕ} {x : What} {a : Around} {u mid rest : List Word} (o : One c x a u mid) (t : Read c x m a mid rest) → Besides x (o .item ∷ t .items) → Read c x (1 + m) a u rest
 cons {c} {m} {x} {a} {u} {mid} {rest} o t b = record {
-    items = o .item ∷ t .items; many = let n = t .many in omega arith;
-    words = o .words ∙ ap (λ v. words-of x (o .item) ++ v) (t .words) ∙ sym (append-assoc (words-of x (o .item)) (joined (words-of x) (t .items)) rest);
-    holds = (o .holds, t .holds); besides = b }
+  items = o .item ∷ t .items;
+  many = let n = t .many in omega arith;
+  words = o .words ∙ ap (λ v. words-of x (o .item) ++ v) (t .words) ∙ sym (append-assoc (words-of x (o .item)) (joined (words-of x) (t .items)) rest);
+  holds = (o .holds, t .holds);
+  besides = b;
+}
 
 after-same : (x : What) (k : Kind) → admits what.SingleStatement k ≡ true → after x k ≡ x
 after-same x k h = go (eqb (code k) 23) refl
@@ -196,6 +204,7 @@ after-same x k h = go (eqb (code k) 23) refl
     last : (p q : Bool) → p ≡ true → cond p true q ≡ true
     last true q e = refl
     last false q e = absurd (clash e)
+
     go : (b : Bool) → eqb (code k) 23 ≡ b → cond b what.CaseAfterDefault x ≡ x
     go true e = let f : k ≡ kind.Default = sym (kind-of-code k) ∙ ap kind-of (eqb-true (code k) 23 e) in absurd (clash (ap (admits what.SingleStatement) (sym f) ∙ h))
     go false e = refl
@@ -222,9 +231,12 @@ more a n m a-case p r t = cons (item-of a n a-case p r) t (t .besides)
 more {c} a n m {ws} {mid} {rest} a-default p r t =
     let o : One c what.Case a (word kind.Default n ∷ ws) mid = item-of a n a-default p r in
     record {
-      items = o .item ∷ t .items; many = let n = t .many in omega arith;
+      items = o .item ∷ t .items;
+      many = let n = t .many in omega arith;
       words = o .words ∙ ap (λ v. words-of what.Case (o .item) ++ v) (t .words) ∙ sym (append-assoc (words-of what.Case (o .item)) (joined (words-of what.Case) (t .items)) rest);
-      holds = (o .holds, t .holds); besides = t .besides }
+      holds = (o .holds, t .holds);
+      besides = t .besides;
+    }
 more a n m a-later-case p r t = cons (item-of a n a-later-case p r) t (tt, t .besides)
 
 read-none : {c : ℕ} (x : What) {a : Around} {ws : List Word} → Read c x 0 a ws ws
@@ -281,7 +293,7 @@ accepted c (w ∷ ws) (d ∷ ds) at n h =
     let r3 = need (part-due (p .third) a) r4 in
     let r2 = need (part-due (p .second) a) r3 in
     let i = accepted c ws (next d w ds) (at + 1)
-      (counted-need (part-due (p .first) a) r2 (counted-need (part-due (p .second) a) r3 (counted-need (part-due (p .third) a) r4 (counted-need (part-due (p .fourth) a) r5 (counted-need (rest-due d w) ds (n .1)))))) (both .1) in
+    (counted-need (part-due (p .first) a) r2 (counted-need (part-due (p .second) a) r3 (counted-need (part-due (p .third) a) r4 (counted-need (part-due (p .fourth) a) r5 (counted-need (rest-due d w) ds (n .1)))))) (both .1) in
     let i1 = unneed c (part-due (p .first) a) r2 ws i in
     let i2 = unneed c (part-due (p .second) a) r3 (i1 .0) (i1 .2) in
     let i3 = unneed c (part-due (p .third) a) r4 (i2 .0) (i2 .2) in

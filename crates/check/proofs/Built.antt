@@ -79,7 +79,8 @@ of-for a n {ws} {rest} m d p =
     record {
       item = For (i .begin) (t .test) (t .update) (b .item);
       words = after-word kind.For number (then-two (encode-start (i .begin)) (xs ++ (ys ++ zs)) rest (i .words) (t .words ∙ ap (λ v. xs ++ (ys ++ v)) (b .words) ∙ (let h : xs ++ (ys ++ (zs ++ rest)) ≡ (xs ++ (ys ++ zs)) ++ rest = sym (simp append-assoc) in h)));
-      holds = (d, i .known, t .test-known, t .update-known, b .holds) }
+      holds = (d, i .known, t .test-known, t .update-known, b .holds);
+    }
 
 of-try : {c : ℕ} (a : Around) (n : ℕ) {ws rest : List Word} → allows kind.Try n ≡ true → Not-deep a → PartsRead c (within (word kind.Try n) a) (parts (word kind.Try n)) ws rest →
     One c what.SingleStatement a (word kind.Try n ∷ ws) rest
@@ -88,14 +89,18 @@ of-try a (suc zero) {ws} {rest} m d p =
     let b = only (p .first) in
     let h = only (p .second) in
     record {
-      item = TryCatch (b .item) (h .item .name) (h .item .list); words = after-word kind.Try refl (then-two (encode-body (b .item)) (encode-catch (h .item .name) (h .item .list)) rest (b .words) (then (encode-catch (h .item .name) (h .item .list)) (h .words) (nothing (p .third) ∙ nothing (p .fourth))));
-      holds = (d, b .holds, h .holds) }
+      item = TryCatch (b .item) (h .item .name) (h .item .list);
+      words = after-word kind.Try refl (then-two (encode-body (b .item)) (encode-catch (h .item .name) (h .item .list)) rest (b .words) (then (encode-catch (h .item .name) (h .item .list)) (h .words) (nothing (p .third) ∙ nothing (p .fourth))));
+      holds = (d, b .holds, h .holds);
+    }
 of-try a (suc (suc zero)) {ws} {rest} m d p =
     let b = only (p .first) in
     let f = only (p .third) in
     record {
-      item = TryFinally (b .item) (f .item); words = after-word kind.Try refl (then-two (encode-body (b .item)) (encode-body (f .item)) rest (b .words) (nothing (p .second) ∙ then (encode-body (f .item)) (f .words) (nothing (p .fourth))));
-      holds = (d, b .holds, f .holds) }
+      item = TryFinally (b .item) (f .item);
+      words = after-word kind.Try refl (then-two (encode-body (b .item)) (encode-body (f .item)) rest (b .words) (nothing (p .second) ∙ then (encode-body (f .item)) (f .words) (nothing (p .fourth))));
+      holds = (d, b .holds, f .holds);
+    }
 of-try a (suc (suc (suc zero))) {ws} {rest} m d p =
     let b = only (p .first) in
     let h = only (p .second) in
@@ -103,7 +108,8 @@ of-try a (suc (suc (suc zero))) {ws} {rest} m d p =
     record {
       item = TryBoth (b .item) (h .item .name) (h .item .list) (f .item);
       words = after-word kind.Try refl (then-three (encode-body (b .item)) (encode-catch (h .item .name) (h .item .list)) (encode-body (f .item)) rest (b .words) (h .words) (then (encode-body (f .item)) (f .words) (nothing (p .fourth))));
-      holds = (d, b .holds, h .holds, f .holds) }
+      holds = (d, b .holds, h .holds, f .holds);
+    }
 of-try a (suc (suc (suc (suc n)))) {ws} {rest} m d p = absurd (let l = leb-true (suc (suc (suc (suc n)))) 3 (within-both _ _ m) in omega arith)
 
 of-if : {c : ℕ} (a : Around) (n : ℕ) {ws rest : List Word} → allows kind.If n ≡ true → Not-deep a → PartsRead c (within (word kind.If n) a) (parts (word kind.If n)) ws rest →
@@ -117,7 +123,10 @@ of-if a (suc zero) {ws} {rest} m d p =
     let s = only (p .second) in
     let t = only (p .third) in
     record {
-      item = IfElse (e .item) (s .item) (t .item); words = after-word kind.If refl (then-three (encode-expression (e .item)) (encode (s .item)) (encode (t .item)) rest (e .words) (s .words) (then (encode (t .item)) (t .words) (nothing (p .fourth)))); holds = (d, e .holds, s .holds, t .holds) }
+      item = IfElse (e .item) (s .item) (t .item);
+      words = after-word kind.If refl (then-three (encode-expression (e .item)) (encode (s .item)) (encode (t .item)) rest (e .words) (s .words) (then (encode (t .item)) (t .words) (nothing (p .fourth))));
+      holds = (d, e .holds, s .holds, t .holds);
+    }
 of-if a (suc (suc n)) {ws} {rest} m d p = absurd (let l = leb-true (suc (suc n)) 1 m in omega arith)
 
 not-set : (b : Bool) → not b ≡ true → b ≡ false

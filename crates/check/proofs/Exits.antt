@@ -11,8 +11,8 @@ use Rattle.std.proofs.shelf.Tests.{cases-lt}
 use Rattle.std.specs.declared.result.Result.{Result}
 use Rattle.std.specs.declared.result.Result.the-variants.{Ok, Err}
 use Rattle.std.specs.Results.{Cases, ErrBy}
-use Rattle.words.specs.declared.stack.Stack.{Stack}
-use Rattle.words.specs.Stack.{held}
+use Rattle.bounded.specs.declared.stack.Stack.{Stack}
+use Rattle.bounded.specs.Stack.{held}
 use Rattle.words.specs.declared.word.Word.{Word}
 use Rattle.words.specs.Words.{read-word}
 use Rattle.words.specs.declared.format.What.{What}
@@ -24,7 +24,7 @@ use Rattle.check.specs.declared.fault.TreeFault.{TreeFault}
 use Rattle.check.specs.declared.fault.TreeFault.the-variants.{Reader}
 use Rattle.check.specs.Check.{Due, Verdict, judge, is-label, is-loop, check, first-word, no-more}
 use Rattle.check.specs.Held.{due-in, due-of, dues, relabelled, within-spot, risen, opened, looped, height, Sound, Left, frames-of}
-use Rattle.words.proofs.Walks.{words-more, words-all}
+use Rattle.scan.proofs.Walks.{words-more, words-all}
 use Rattle.check.proofs.Steps.{left-next, left-refused}
 
 pub by-err : {T E : Type 0} (r : Result T E) (P : T → Type 0) (Q : E → Type 0) (g : E) → ErrBy r (λ y. y ≡ g) → Q g → Cases r P Q
@@ -45,9 +45,9 @@ first-is xs at w e = go (cases-lt at (length xs))
   where
     go : (at < length xs) ⊎ (length xs ≤ at) → First xs at w
     go (inl h) =
-      let m = words-more (λ ws. ws) xs at h in
-      let i : w ≡ read-word (getD xs at 0) = let z : first-word (drop at (map read-word xs)) at ≡ Ok (read-word (getD xs at 0)) = words-more (λ ws. first-word ws at) xs at h in cc in
-      record { within = h; words = m ∙ ap (λ v. v ∷ drop (at + 1) (map read-word xs)) (sym i) }
+        let m = words-more (λ ws. ws) xs at h in
+        let i : w ≡ read-word (getD xs at 0) = let z : first-word (drop at (map read-word xs)) at ≡ Ok (read-word (getD xs at 0)) = words-more (λ ws. first-word ws at) xs at h in cc in
+        record { within = h; words = m ∙ ap (λ v. v ∷ drop (at + 1) (map read-word xs)) (sym i) }
     go (inr h) = absurd (let z : first-word (drop at (map read-word xs)) at ≡ first-word [] at = words-all (λ ws. first-word ws at) xs at h in let y : _≡_ {A = ℕ} 0 1 = cc in omega arith)
 
 height-most : (x : What) → height x ≤ 7
@@ -89,8 +89,9 @@ left-step count xs at f fs gs os ls ps ms qs ns w s i e g j h q n =
     let p : looped f w (take (f .spot .labels) os) (take (f .spot .iterations) ls) ≡ ns = ap₂ (looped f w) (sym e) (sym g) ∙ sym n in
     record {
       sound = subst₂ (λ a b. Sound (length a) (length b) gs) o p
-        (subst (Sound (length (opened w (take (f .spot .labels) os))) (length (looped f w (take (f .spot .labels) os) (take (f .spot .iterations) ls)))) (sym h) (l .sound));
-      same = (λ k. check count (dues (sym o k) (sym p k) (h k)) ws (at + 1)) ∙ l .same ∙ ap (λ v. check count (dues os ls (f ∷ fs)) v at) (sym (i .words)) }
+          (subst (Sound (length (opened w (take (f .spot .labels) os))) (length (looped f w (take (f .spot .labels) os) (take (f .spot .iterations) ls)))) (sym h) (l .sound));
+      same = (λ k. check count (dues (sym o k) (sym p k) (h k)) ws (at + 1)) ∙ l .same ∙ ap (λ v. check count (dues os ls (f ∷ fs)) v at) (sym (i .words));
+    }
 
 pub popped : (s t : Stack Frame) (f : Frame) → held s ≡ held t ++ f ∷ [] → frames-of s ≡ f ∷ frames-of t
 popped s t f e = ap reverse e ∙ reverse-append (held t) (f ∷ [])
@@ -124,7 +125,7 @@ pub within-depth : (w : Word) (s : Spot) → within-spot w s .depth ≡ s .depth
 within-depth w s = go (is-label (w .kind)) (is-loop (w .kind))
   where
     go : (b c : Bool) →
-      cond b (relabelled (s .labels + 1) (s .set + 1) (s .iterations) s) (cond c (relabelled (s .labels) 0 (s .iterations + s .set) s) (relabelled (s .labels) 0 (s .iterations) s)) .depth ≡ s .depth
+        cond b (relabelled (s .labels + 1) (s .set + 1) (s .iterations) s) (cond c (relabelled (s .labels) 0 (s .iterations + s .set) s) (relabelled (s .labels) 0 (s .iterations) s)) .depth ≡ s .depth
     go true c = refl
     go false true = refl
     go false false = refl

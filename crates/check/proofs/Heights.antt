@@ -198,31 +198,51 @@ up x t Same {s} {fs} {j} u d l =
     let n = length-onto (part-frame (part x t Same) s) fs in
     record {
       sound = sound-onto _ fs _ _ (u .sound) (omega arith) (omega arith) (λ p. record { some = p; set = omega arith; labels = omega arith; depth = omega arith; under = omega arith });
-      set = u .set; labels = u .labels; depth = u .depth; under = omega arith }
+      set = u .set;
+      labels = u .labels;
+      depth = u .depth;
+      under = omega arith;
+    }
 up x t Nested {s} {fs} {j} u d l =
     let b = leb-true _ _ l in
     let n = length-onto (part-frame (part x t Nested) s) fs in
     record {
       sound = sound-onto _ fs _ _ (u .sound) (omega arith) (omega arith) (λ p. record { some = p; set = omega arith; labels = omega arith; depth = omega arith; under = omega arith });
-      set = u .set; labels = u .labels; depth = u .depth; under = omega arith }
+      set = u .set;
+      labels = u .labels;
+      depth = u .depth;
+      under = omega arith;
+    }
 up x t LoopBody {s} {fs} {j} u d l =
     let b = leb-true _ _ l in
     let n = length-onto (part-frame (part x t LoopBody) s) fs in
     record {
       sound = sound-onto _ fs _ _ (u .sound) (omega arith) (omega arith) (λ p. record { some = p; set = omega arith; labels = omega arith; depth = omega arith; under = omega arith });
-      set = u .set; labels = u .labels; depth = u .depth; under = omega arith }
+      set = u .set;
+      labels = u .labels;
+      depth = u .depth;
+      under = omega arith;
+    }
 up x t SwitchCase {s} {fs} {j} u d l =
     let b = leb-true _ _ l in
     let n = length-onto (part-frame (part x t SwitchCase) s) fs in
     record {
       sound = sound-onto _ fs _ _ (u .sound) (omega arith) (omega arith) (λ p. record { some = p; set = omega arith; labels = omega arith; depth = omega arith; under = omega arith });
-      set = u .set; labels = u .labels; depth = u .depth; under = omega arith }
+      set = u .set;
+      labels = u .labels;
+      depth = u .depth;
+      under = omega arith;
+    }
 up x t LabelBody {s} {fs} {j} u d l =
     let b = leb-true _ _ l in
     let n = length-onto (part-frame (part x t LabelBody) s) fs in
     record {
       sound = sound-onto _ fs _ _ (u .sound) (omega arith) (omega arith) (λ p. record { some = p; set = omega arith; labels = omega arith; depth = omega arith; under = omega arith });
-      set = u .set; labels = u .labels; depth = u .depth; under = omega arith }
+      set = u .set;
+      labels = u .labels;
+      depth = u .depth;
+      under = omega arith;
+    }
 
 -- the labels of the parts of a word that is no Label
 plain : {s : Spot} {fs : List Frame} {j : ℕ} → Up s fs j → Up (relabelled (s .labels) 0 (s .iterations) s) fs j
@@ -230,8 +250,12 @@ plain u = record { sound = u .sound; set = let a = u .set in omega arith; labels
 
 in-loop : {s : Spot} {fs : List Frame} {j : ℕ} → Up s fs j → Up (relabelled (s .labels) 0 (s .iterations + s .set) s) fs j
 in-loop {s} {fs} u = record {
-    sound = sound-more fs _ _ _ _ (omega arith) (omega arith) (u .sound);
-    set = let a = u .set in omega arith; labels = u .labels; depth = u .depth; under = u .under }
+  sound = sound-more fs _ _ _ _ (omega arith) (omega arith) (u .sound);
+  set = let a = u .set in omega arith;
+  labels = u .labels;
+  depth = u .depth;
+  under = u .under;
+}
 
 pub grown-sound : (k : Kind) (n : ℕ) (s : Spot) (fs : List Frame) → Up s fs (least k + 1) → (inner k ≡ true → s .depth ≤ 100) →
     Sound (within-spot (word k n) s .labels) (within-spot (word k n) s .iterations) (grown (parts-of k n) (within-spot (word k n) s) fs)
@@ -250,8 +274,8 @@ grown-sound kind.Label n s fs u d =
     let e = d refl in
     let set = u .set in
     sound-onto (part-frame (part SingleStatement 1 LabelBody) (within-spot (word kind.Label n) s)) fs (s .labels + 1) (s .iterations)
-      (sound-more fs _ _ _ _ (omega arith) (omega arith) (u .sound)) (omega arith) (omega arith)
-      (λ p. record { some = p; set = omega arith; labels = omega arith; depth = omega arith; under = omega arith })
+    (sound-more fs _ _ _ _ (omega arith) (omega arith) (u .sound)) (omega arith) (omega arith)
+    (λ p. record { some = p; set = omega arith; labels = omega arith; depth = omega arith; under = omega arith })
 grown-sound kind.Break n s fs u d = (plain u) .sound
 grown-sound kind.BreakTo n s fs u d = (plain u) .sound
 grown-sound kind.Continue n s fs u d = (plain u) .sound

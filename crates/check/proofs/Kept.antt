@@ -23,7 +23,7 @@ use Rattle.words.specs.Tree.{Expression, expression, Declarator, Name, NameInit
 use Rattle.words.specs.Tree.{Statement, Empty, Break, Continue, Block, Expr, Throw, Var, If, IfElse, For, While, Do, Switch, Label, BreakTo, ContinueTo, Return, TryCatch, TryFinally, TryBoth}
 use Rattle.words.specs.Tree.{Statements, none, some, Let, Cases, no-case, case}
 use Rattle.words.specs.Encode.{encode-expression, encode-optional, encode-declarator, encode-declarators, encode-var, encode-let, encode-start, flag, for-number, count, count-cases, catch-head, encode, encode-list, encode-cases, encode-body, encode-catch, encode-case}
-use Rattle.words.proofs.Skips.{by-expression, by-declaration, for-has}
+use Rattle.scan.proofs.Skips.{by-expression, by-declaration, for-has}
 use Rattle.check.specs.Check.{Around, Due, depth-limit, among, jumps-well, is-known, not-deep, within, surround, check, start, nowhere, check-script}
 use Rattle.check.specs.Rules.{inside, loop-body, switch-case, labelled, listed, All-below, Known, Known-optional, Known-declarator, Known-declarators, Known-start, No-default, One-default, Not-deep, Keeps, Keeps-list, Keeps-cases, Script}
 use Rattle.check.proofs.Eats.{due, Eats, Done, done, eats-none, eats-join, eats-as, Good, Parted, eats-word, parts-0, parts-1, parts-2, parts-3}
@@ -52,7 +52,7 @@ eats-expression : {c : ℕ} {a : Around} (e : Expression) → Known c e → Eats
 eats-expression (expression e []) h = eats-word (word kind.Expression e) (record { stands = refl; numbered = refl; deep = refl; known = below (h .0); jumps = refl }) parts-0
 eats-expression (expression e (d ∷ es)) h =
     eats-word (word kind.Sequence (length (e ∷ d ∷ es))) (record { stands = refl; numbered = le-leb 2 _ (omega arith); deep = refl; known = refl; jumps = refl })
-      (parts-1 (part what.SequencePart (length (e ∷ d ∷ es)) Same) (done (eats-parts (e ∷ d ∷ es) h)))
+    (parts-1 (part what.SequencePart (length (e ∷ d ∷ es)) Same) (done (eats-parts (e ∷ d ∷ es) h)))
 
 eats-optional : {c : ℕ} {a : Around} (e : Option Expression) → Known-optional c e → Eats c what.Expression what.Expression a (flag 1 e) (encode-optional e)
 eats-optional None h = eats-none
@@ -71,12 +71,12 @@ eats-declarators (d ∷ ds) h = eats-as (eats-join (eats-declarator d (h .0)) (e
 eats-var : {c : ℕ} {a : Around} (x : What) → admits x kind.Var ≡ true → not-deep x a ≡ true → (d : Declarator) (ds : List Declarator) → Known-declarators c (d ∷ ds) → Eats c x x a 1 (encode-var d ds)
 eats-var x s n d ds h =
     eats-word (word kind.Var (length (d ∷ ds))) (record { stands = s; numbered = le-leb 1 _ (omega arith); deep = n; known = refl; jumps = refl })
-      (parts-1 (part what.Declarator (length (d ∷ ds)) Same) (done (eats-declarators (d ∷ ds) h)))
+    (parts-1 (part what.Declarator (length (d ∷ ds)) Same) (done (eats-declarators (d ∷ ds) h)))
 
 eats-let : {c : ℕ} {a : Around} (x : What) → admits x kind.Let ≡ true → not-deep x a ≡ true → (d : Declarator) (ds : List Declarator) → Known-declarators c (d ∷ ds) → Eats c x x a 1 (encode-let d ds)
 eats-let x s n d ds h =
     eats-word (word kind.Let (length (d ∷ ds))) (record { stands = s; numbered = le-leb 1 _ (omega arith); deep = n; known = refl; jumps = refl })
-      (parts-1 (part what.Declarator (length (d ∷ ds)) Same) (done (eats-declarators (d ∷ ds) h)))
+    (parts-1 (part what.Declarator (length (d ∷ ds)) Same) (done (eats-declarators (d ∷ ds) h)))
 
 -- the initial parts of a For: an expression or a declaration
 abbrev start-words : Start → List Word
@@ -130,13 +130,17 @@ eats-for {c} a i t u s h k l d =
     let A = within (word kind.For (for-number i t u)) a in
     let ts = eats-join (eats-optional t k) (eats-optional u l) in
     record {
-      one = start-words i; two = declaration-words i; three = encode-optional t ++ encode-optional u; four = encode s;
+      one = start-words i;
+      two = declaration-words i;
+      three = encode-optional t ++ encode-optional u;
+      four = encode s;
       words = ap (λ v. v ++ (encode-optional t ++ (encode-optional u ++ encode s))) (start-split i)
-        ∙ append-assoc (start-words i) (declaration-words i) _ ∙ ap (λ v. start-words i ++ (declaration-words i ++ v)) (sym (append-assoc (encode-optional t) (encode-optional u) (encode s)));
+          ∙ append-assoc (start-words i) (declaration-words i) _ ∙ ap (λ v. start-words i ++ (declaration-words i ++ v)) (sym (append-assoc (encode-optional t) (encode-optional u) (encode s)));
       first = subst (λ n. Done c what.Expression A n (start-words i)) (sym (f .has-expression)) (eats-start i h);
       second = subst (λ n. Done c what.ForDeclaration A n (declaration-words i)) (sym (f .has-declaration)) (eats-declaration i h);
       third = subst (λ n. Done c what.Expression A n (encode-optional t ++ encode-optional u)) (sym (ap₂ (λ x y. x + y) (f .has-test) (f .has-update))) (done ts);
-      fourth = d }
+      fourth = d;
+    }
 
 plain : {c : ℕ} {x : What} {a : Around} (k : Kind) (n : ℕ) → admits x k ≡ true → allows k n ≡ true → not-deep x a ≡ true → is-known c k n ≡ true → jumps-well k n a ≡ true → Good c x a (word k n)
 plain k n p m d i j = record { stands = p; numbered = m; deep = d; known = i; jumps = j }
@@ -152,12 +156,12 @@ catch-of : {c : ℕ} (a : Around) (x : Option ℕ) (ss : Statements) → Listed 
 catch-of a None ss d = eats-word (word kind.Catch (count ss)) (plain kind.Catch _ refl refl refl refl refl) (parts-1 (part what.ListStatement (count ss) Same) d)
 catch-of a (Some x) ss d =
     eats-word (word kind.CatchName (count ss)) (plain kind.CatchName _ refl refl refl refl refl)
-      (parts-2 (part what.CatchParameter 1 Same) (part what.ListStatement (count ss) Same) (done (eats-word (word kind.Name x) (plain kind.Name x refl refl refl refl refl) parts-0)) d)
+    (parts-2 (part what.CatchParameter 1 Same) (part what.ListStatement (count ss) Same) (done (eats-word (word kind.Name x) (plain kind.Name x refl refl refl refl refl) parts-0)) d)
 
 case-of : {c : ℕ} (a : Around) (x : What) → admits x kind.Case ≡ true → (e : Expression) (ss : Statements) → Not-deep a → Known c e → Listed c a ss → Eats c x x a 1 (encode-case (Some e) ss)
 case-of a x s e ss d k h =
     eats-word (word kind.Case (count ss)) (plain kind.Case _ s refl (shallow x a d) refl refl)
-      (parts-2 (part what.Expression 1 Same) (part what.ListStatement (count ss) Same) (done (eats-expression e k)) h)
+    (parts-2 (part what.Expression 1 Same) (part what.ListStatement (count ss) Same) (done (eats-expression e k)) h)
 
 default-of : {c : ℕ} (a : Around) (ss : Statements) → Not-deep a → Listed c a ss → Eats c what.Case what.CaseAfterDefault a 1 (encode-case None ss)
 default-of a ss d h = eats-word (word kind.Default (count ss)) (plain kind.Default _ refl refl (shallow what.Case a d) refl refl) (parts-1 (part what.ListStatement (count ss) Same) h)
@@ -191,11 +195,11 @@ mutual
   eats {c} {a} b (Var d ds) h = eats-var (place b) (stands-both kind.Var refl refl b) (shallow (place b) a (h .0)) d ds (h .1)
   eats {c} {a} b (If e s) h =
       subst (λ ws. Eats c (place b) (place b) a 1 (word kind.If 0 ∷ encode-expression e ++ ws)) (append-nil (encode s))
-        (eats-word (word kind.If 0) (good b kind.If 0 refl refl refl (h .0) refl refl)
-          (parts-3 (part what.Expression 1 Same) (part what.SingleStatement 1 Nested) (part what.SingleStatement 0 Nested) (done (eats-expression e (h .1))) (done (eats false s (h .2))) (done eats-none)))
+      (eats-word (word kind.If 0) (good b kind.If 0 refl refl refl (h .0) refl refl)
+      (parts-3 (part what.Expression 1 Same) (part what.SingleStatement 1 Nested) (part what.SingleStatement 0 Nested) (done (eats-expression e (h .1))) (done (eats false s (h .2))) (done eats-none)))
   eats b (IfElse e s t) h =
       eats-word (word kind.If 1) (good b kind.If 1 refl refl refl (h .0) refl refl)
-        (parts-3 (part what.Expression 1 Same) (part what.SingleStatement 1 Nested) (part what.SingleStatement 1 Nested) (done (eats-expression e (h .1))) (done (eats false s (h .2))) (done (eats false t (h .3))))
+      (parts-3 (part what.Expression 1 Same) (part what.SingleStatement 1 Nested) (part what.SingleStatement 1 Nested) (done (eats-expression e (h .1))) (done (eats false s (h .2))) (done (eats false t (h .3))))
   eats {c} {a} b (For i t u s) h =
       eats-word (word kind.For (for-number i t u)) (good b kind.For (for-number i t u) refl refl (for-allowed i t u) (h .0) refl refl) (eats-for a i t u s (h .1) (h .2) (h .3) (done (eats false s (h .4))))
   eats b (While e s) h =
@@ -204,7 +208,7 @@ mutual
       eats-word (word kind.Do 0) (good b kind.Do 0 refl refl refl (h .0) refl refl) (parts-2 (part what.SingleStatement 1 LoopBody) (part what.Expression 1 Same) (done (eats false s (h .1))) (done (eats-expression e (h .2))))
   eats {c} {a} b (Switch e cs) h =
       eats-word (word kind.Switch (count-cases cs)) (good b kind.Switch _ refl refl refl (h .0) refl refl)
-        (parts-2 (part what.Expression 1 Same) (part what.Case (count-cases cs) SwitchCase) (done (eats-expression e (h .1))) (done (eats-first cs (h .2) (h .3) .1)))
+      (parts-2 (part what.Expression 1 Same) (part what.Case (count-cases cs) SwitchCase) (done (eats-expression e (h .1))) (done (eats-first cs (h .2) (h .3) .1)))
   eats {c} {a} b (Label l s) h =
       eats-word (word kind.Label l) (good b kind.Label l refl refl refl (h .0) refl (not-among (among l (a .labels)) (h .1))) (parts-1 (part what.SingleStatement 1 LabelBody) (done (eats false s (h .2))))
   eats b (BreakTo l) h = eats-word (word kind.BreakTo l) (good b kind.BreakTo l refl refl refl (h .0) refl (h .1)) parts-0
@@ -213,14 +217,14 @@ mutual
   eats b (Return (Some e)) h = eats-word (word kind.Return 1) (good b kind.Return 1 refl refl refl (h .0) refl refl) (parts-1 (part what.Expression 1 Same) (done (eats-expression e (h .1))))
   eats {c} {a} b (TryCatch ss x cs) h =
       subst (λ ws. Eats c (place b) (place b) a 1 (word kind.Try 1 ∷ encode-body ss ++ ws)) (append-nil (encode-catch x cs))
-        (eats-word (word kind.Try 1) (good b kind.Try 1 refl refl refl (h .0) refl refl)
-          (parts-3 (part what.Body 1 Nested) (part what.Catch 1 Nested) (part what.Body 0 Nested) (done (body-of (inside a) ss (done (eats-list ss (h .1))))) (done (catch-of (inside a) x cs (done (eats-list cs (h .2))))) (done eats-none)))
+      (eats-word (word kind.Try 1) (good b kind.Try 1 refl refl refl (h .0) refl refl)
+      (parts-3 (part what.Body 1 Nested) (part what.Catch 1 Nested) (part what.Body 0 Nested) (done (body-of (inside a) ss (done (eats-list ss (h .1))))) (done (catch-of (inside a) x cs (done (eats-list cs (h .2))))) (done eats-none)))
   eats {c} {a} b (TryFinally ss fs) h =
       eats-word (word kind.Try 2) (good b kind.Try 2 refl refl refl (h .0) refl refl)
-        (parts-3 (part what.Body 1 Nested) (part what.Catch 0 Nested) (part what.Body 1 Nested) (done (body-of (inside a) ss (done (eats-list ss (h .1))))) (done eats-none) (done (body-of (inside a) fs (done (eats-list fs (h .2))))))
+      (parts-3 (part what.Body 1 Nested) (part what.Catch 0 Nested) (part what.Body 1 Nested) (done (body-of (inside a) ss (done (eats-list ss (h .1))))) (done eats-none) (done (body-of (inside a) fs (done (eats-list fs (h .2))))))
   eats {c} {a} b (TryBoth ss x cs fs) h =
       eats-word (word kind.Try 3) (good b kind.Try 3 refl refl refl (h .0) refl refl)
-        (parts-3 (part what.Body 1 Nested) (part what.Catch 1 Nested) (part what.Body 1 Nested) (done (body-of (inside a) ss (done (eats-list ss (h .1))))) (done (catch-of (inside a) x cs (done (eats-list cs (h .2))))) (done (body-of (inside a) fs (done (eats-list fs (h .3))))))
+      (parts-3 (part what.Body 1 Nested) (part what.Catch 1 Nested) (part what.Body 1 Nested) (done (body-of (inside a) ss (done (eats-list ss (h .1))))) (done (catch-of (inside a) x cs (done (eats-list cs (h .2))))) (done (body-of (inside a) fs (done (eats-list fs (h .3))))))
 
   eats-list : {c : ℕ} {a : Around} (ss : Statements) → Keeps-list c a ss → Eats c what.ListStatement what.ListStatement a (count ss) (encode-list ss)
   eats-list none h = eats-none

@@ -9,7 +9,7 @@ use Rattle.std.specs.declared.result.Result.the-variants.{Err}
 use Rattle.words.specs.Words.{read-word}
 use Rattle.words.specs.Tree.{Statements}
 use Rattle.words.specs.Encode.{encode-body}
-use Rattle.words.proofs.Unique.{unique-body}
+use Rattle.scan.proofs.Unique.{unique-body}
 use Rattle.check.specs.declared.fault.TreeFault.{TreeFault}
 use Rattle.check.specs.Check.{check, check-script, start}
 use Rattle.check.specs.Laws.{place-of, Laws}
@@ -27,11 +27,12 @@ refused-same count words before word after other f e p h =
     let l = length-map before read-word in
     ap (check-script count) (map-split before word other)
     ∙ refused-alike count (map read-word before) (read-word word) (map read-word after) (map read-word other) (start ∷ []) 0 f
-        (ap (check-script count) (sym (map-split before word after) ∙ ap (map read-word) (sym e)) ∙ h) (omega arith)
+    (ap (check-script count) (sym (map-split before word after) ∙ ap (map read-word) (sym e)) ∙ h) (omega arith)
 
 pub laws : (count : ℕ) (words : List ℕ) → Laws count words
 laws count words = record {
-    sound = accepted-kept count (map read-word words);
-    complete = kept-accepted count (map read-word words);
-    unique = λ ss ts p q. unique-body ss ts [] [] (ap (λ ws. ws ++ []) (sym p ∙ q)) .0;
-    prefix = refused-same count words }
+  sound = accepted-kept count (map read-word words);
+  complete = kept-accepted count (map read-word words);
+  unique = λ ss ts p q. unique-body ss ts [] [] (ap (λ ws. ws ++ []) (sym p ∙ q)) .0;
+  prefix = refused-same count words;
+}

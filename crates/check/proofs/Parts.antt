@@ -45,8 +45,11 @@ pub record ListRead (c n : ℕ) (a : Around) (u v : List Word) : Type 0 where
 
 pub a-list : {c n : ℕ} {a : Around} {u v : List Word} → Read c what.ListStatement n a u v → ListRead c n a u v
 a-list {c} {n} {a} {u} {v} r = record {
-    list = to-list (r .items); many = sym (r .many) ∙ list-count (r .items);
-    words = r .words ∙ ap (λ ws. ws ++ v) (list-words (r .items)); keeps = list-keeps c a (r .items) (r .holds) }
+  list = to-list (r .items);
+  many = sym (r .many) ∙ list-count (r .items);
+  words = r .words ∙ ap (λ ws. ws ++ v) (list-words (r .items));
+  keeps = list-keeps c a (r .items) (r .holds);
+}
 
 pub record CasesRead (c n : ℕ) (a : Around) (u v : List Word) : Type 0 where
   pub cases : Cases
@@ -57,8 +60,12 @@ pub record CasesRead (c n : ℕ) (a : Around) (u v : List Word) : Type 0 where
 
 pub the-cases : {c n : ℕ} {a : Around} {u v : List Word} → Read c what.Case n a u v → CasesRead c n a u v
 the-cases {c} {n} {a} {u} {v} r = record {
-    cases = to-cases (r .items); many = sym (r .many) ∙ cases-count (r .items);
-    words = r .words ∙ ap (λ ws. ws ++ v) (cases-words (r .items)); keeps = cases-keep c a (r .items) (r .holds); default = at-most-one (r .items) (r .besides) }
+  cases = to-cases (r .items);
+  many = sym (r .many) ∙ cases-count (r .items);
+  words = r .words ∙ ap (λ ws. ws ++ v) (cases-words (r .items));
+  keeps = cases-keep c a (r .items) (r .holds);
+  default = at-most-one (r .items) (r .besides);
+}
 
 -- one declarator or more
 pub record DeclaratorsRead (c n : ℕ) (u v : List Word) : Type 0 where
@@ -103,7 +110,10 @@ a-sequence {c} {n} {a} {u} {v} l r = go (r .items) (r .many) (r .words) (r .hold
     go [] m e h = absurd (omega arith)
     go (x ∷ []) m e h = absurd (omega arith)
     go (x ∷ y ∷ es) m e h = record {
-      item = expression x (y ∷ es); words = after-word kind.Sequence (sym m) (e ∙ ap (λ ws. ws ++ v) (parts-words (x ∷ y ∷ es))); holds = parts-below c (x ∷ y ∷ es) h }
+      item = expression x (y ∷ es);
+      words = after-word kind.Sequence (sym m) (e ∙ ap (λ ws. ws ++ v) (parts-words (x ∷ y ∷ es)));
+      holds = parts-below c (x ∷ y ∷ es) h;
+    }
 
 -- an expression that may be absent
 pub record OptionalRead (c n : ℕ) (u v : List Word) : Type 0 where
@@ -137,9 +147,13 @@ tail {c} {s} {u} {v} a b k l r = go a k (r .items) (r .many) (r .words) (r .hold
     go zero k (x ∷ []) m e h = record { test = None; update = Some x; many = omega arith; words = e ∙ ap (λ ws. ws ++ v) (append-nil (encode-expression x)); test-known = tt; update-known = h .0 }
     go (suc a) k (x ∷ []) m e h = record { test = Some x; update = None; many = omega arith; words = e ∙ ap (λ ws. ws ++ v) (append-nil (encode-expression x)); test-known = h .0; update-known = tt }
     go a k (x ∷ y ∷ []) m e h = record {
-      test = Some x; update = Some y; many = omega arith;
+      test = Some x;
+      update = Some y;
+      many = omega arith;
       words = e ∙ ap (λ ws. (encode-expression x ++ ws) ++ v) (append-nil (encode-expression y)) ∙ append-assoc (encode-expression x) (encode-expression y) v;
-      test-known = h .0; update-known = h .1 .0 }
+      test-known = h .0;
+      update-known = h .1 .0;
+    }
     go a k (x ∷ y ∷ z ∷ es) m e h = absurd (omega arith)
 
 -- how a For begins: by an expression, a declaration, or neither
@@ -153,7 +167,7 @@ pub a-start : {c : ℕ} {s t : Around} {u v w : List Word} (a b : ℕ) → a + b
 a-start {c} {s} {t} {u} {v} {w} a b l p q = go (p .items) (p .many) (p .words) (p .holds) (q .items) (q .many) (q .words) (q .holds)
   where
     go : (es : List Expression) → length es ≡ a → u ≡ joined encode-expression es ++ v → All (Known c) es →
-      (ds : List Declaration) → length ds ≡ b → v ≡ joined encode-declaration ds ++ w → All (Known-declaration c) ds → StartRead c a b u w
+        (ds : List Declaration) → length ds ≡ b → v ≡ joined encode-declaration ds ++ w → All (Known-declaration c) ds → StartRead c a b u w
     go [] m e h [] n f k = record { begin = no-start; many = omega arith; words = e ∙ f; known = tt }
     go [] m e h (by-var d ds ∷ []) n f k = record { begin = start-var d ds; many = omega arith; words = e ∙ f ∙ ap (λ ws. ws ++ w) (append-nil (encode-declaration (by-var d ds))); known = k .0 }
     go [] m e h (by-let d ds ∷ []) n f k = record { begin = start-let d ds; many = omega arith; words = e ∙ f ∙ ap (λ ws. ws ++ w) (append-nil (encode-declaration (by-let d ds))); known = k .0 }

@@ -40,7 +40,7 @@ no-earlier c (w ∷ ws) [] at f e = let p = ap place-of (same-fault _ f e) in om
 no-earlier c (w ∷ ws) (d ∷ ds) at f e = go (judge c d w at) refl (λ r. no-earlier c ws (next d w ds) (at + 1) f r) e
   where
     go : (v : Verdict) → judge c d w at ≡ v → (check c (next d w ds) ws (at + 1) ≡ Err f → at + 1 ≤ place-of f) →
-      and-then v (check c (next d w ds) ws (at + 1)) ≡ Err f → at ≤ place-of f
+        and-then v (check c (next d w ds) ws (at + 1)) ≡ Err f → at ≤ place-of f
     go (Ok x) j more e = let p = more e in omega arith
     go (Err g) j more e = let p = judged-here c d w at g j in let q = ap place-of (same-fault g f e) in omega arith
 
@@ -58,6 +58,6 @@ refused-alike c (v ∷ before) w after other (d ∷ ds) at f e p =
     go (judge c d v at) (λ r. refused-alike c before w after other (next d v ds) (at + 1) f r (omega arith)) e
   where
     go : (u : Verdict) → (check c (next d v ds) (before ++ w ∷ after) (at + 1) ≡ Err f → check c (next d v ds) (before ++ w ∷ other) (at + 1) ≡ Err f) →
-      and-then u (check c (next d v ds) (before ++ w ∷ after) (at + 1)) ≡ Err f → and-then u (check c (next d v ds) (before ++ w ∷ other) (at + 1)) ≡ Err f
+        and-then u (check c (next d v ds) (before ++ w ∷ after) (at + 1)) ≡ Err f → and-then u (check c (next d v ds) (before ++ w ∷ other) (at + 1)) ≡ Err f
     go (Ok x) more e = more e
     go (Err g) more e = e

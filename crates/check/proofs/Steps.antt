@@ -55,12 +55,12 @@ looped-by b c s os ls = cond b ls (cond c (ls ++ set-of s os) ls)
 abbrev spot-by : Bool → Bool → Spot → Spot
 spot-by b c s =
     cond b (relabelled (s .labels + 1) (s .set + 1) (s .iterations) s)
-      (cond c (relabelled (s .labels) 0 (s .iterations + s .set) s) (relabelled (s .labels) 0 (s .iterations) s))
+    (cond c (relabelled (s .labels) 0 (s .iterations + s .set) s) (relabelled (s .labels) 0 (s .iterations) s))
 
 abbrev around-by : Bool → Bool → ℕ → Around → Around
 around-by b c n a =
     cond b (with-labels (a .labels ++ n ∷ []) (a .label-set ++ n ∷ []) (a .iteration-set) a)
-      (cond c (with-labels (a .labels) [] (a .iteration-set ++ a .label-set) a) (with-labels (a .labels) [] (a .iteration-set) a))
+    (cond c (with-labels (a .labels) [] (a .iteration-set ++ a .label-set) a) (with-labels (a .labels) [] (a .iteration-set) a))
 
 -- the labels kept are as many as the spot says
 pub record Kept (s : Spot) (os ls : List ℕ) : Type 0 where
@@ -81,7 +81,7 @@ around-is true c n s os ls k =
     let p : take (s .labels + 1) (os ++ n ∷ []) ≡ os ++ n ∷ [] = take-all (s .labels + 1) _ l in
     let m : s .labels + 1 - (s .set + 1) ≡ s .labels - s .set = omega arith in
     let q : drop (s .labels + 1 - (s .set + 1)) (take (s .labels + 1) (os ++ n ∷ [])) ≡ set-of s os ++ n ∷ [] =
-      ap₂ drop m p ∙ drop-append-le (s .labels - s .set) os (n ∷ []) (omega arith) in
+    ap₂ drop m p ∙ drop-append-le (s .labels - s .set) os (n ∷ []) (omega arith) in
     let r : take (s .iterations) ls ≡ ls = take-all (s .iterations) ls (omega arith) in
     λ i. record { depth = s .depth; in-loop = s .looping; in-breakable = s .breakable; labels = p i; label-set = q i; iteration-set = r i }
 around-is false true n s os ls k =
@@ -140,12 +140,12 @@ dues-next f w fs os ls k s =
     let e = k .labels in
     let g = k .iterations in
     let b : dues os′ ls′ fs ≡ dues os ls fs =
-      dues-same fs (f .spot .labels) (f .spot .iterations) os′ os ls′ ls s (x ∙ sym (take-all (f .spot .labels) os (omega arith))) (y ∙ sym (take-all (f .spot .iterations) ls (omega arith))) in
+    dues-same fs (f .spot .labels) (f .spot .iterations) os′ os ls′ ls s (x ∙ sym (take-all (f .spot .labels) os (omega arith))) (y ∙ sym (take-all (f .spot .iterations) ls (omega arith))) in
     dues-part f w os ls k (p .first) _ ∙ ap (need (part-due (p .first) a))
-      (dues-part f w os ls k (p .second) _ ∙ ap (need (part-due (p .second) a))
-        (dues-part f w os ls k (p .third) _ ∙ ap (need (part-due (p .third) a))
-          (dues-part f w os ls k (p .fourth) _ ∙ ap (need (part-due (p .fourth) a))
-            (dues-onto os′ ls′ _ fs ∙ ap₂ need r b))))
+    (dues-part f w os ls k (p .second) _ ∙ ap (need (part-due (p .second) a))
+    (dues-part f w os ls k (p .third) _ ∙ ap (need (part-due (p .third) a))
+    (dues-part f w os ls k (p .fourth) _ ∙ ap (need (part-due (p .fourth) a))
+    (dues-onto os′ ls′ _ fs ∙ ap₂ need r b))))
 
 -- what an accepted word has shown
 pub record Passed (d : Due) (w : Word) : Type 0 where
@@ -166,8 +166,9 @@ shallow-of false y h e = absurd (let z : _≡_ {A = ℕ} 0 1 = cc in omega arith
 
 pub passed : (count : ℕ) (d : Due) (w : Word) (at : ℕ) → judge count d w at ≡ Ok tt → Passed d w
 passed count d w at j = record {
-    stood = stood-up (admits (d .what) (w .kind)) (allows (w .kind) (w .number)) _ at j;
-    shallow = λ e. leb-true _ _ (shallow-of (has-depth (d .what)) (leb (d .around .depth) depth-limit) (past _ _ _ (past _ _ _ j .1) .0) e) }
+  stood = stood-up (admits (d .what) (w .kind)) (allows (w .kind) (w .number)) _ at j;
+  shallow = λ e. leb-true _ _ (shallow-of (has-depth (d .what)) (leb (d .around .depth) depth-limit) (past _ _ _ (past _ _ _ j .1) .0) e);
+}
 
 height-after : (x : What) (k : Kind) → admits x k ≡ true → height x ≤ height (after x k)
 height-after x k h = go (eqb (code k) (code kind.Default)) refl
@@ -201,6 +202,7 @@ height-after x k h = go (eqb (code k) (code kind.Default)) refl
     none kind.Sequence e = absurd (omega arith)
     none kind.Name e = absurd (omega arith)
     none kind.NameInit e = absurd (omega arith)
+
     go : (b : Bool) → eqb (code k) (code kind.Default) ≡ b → height x ≤ height (cond b CaseAfterDefault x)
     go true e = let l = none k (eqb-true (code k) (code kind.Default) e) in let m = height-least x k h in omega arith
     go false e = omega arith
@@ -230,7 +232,7 @@ sound-next count f fs m n os ls w at k s j =
     let b = height-least (f .what) (w .kind) (h .stood) in
     let fit = s .2 in
     let base : Sound (f .spot .labels) (f .spot .iterations) (onto g fs) =
-      sound-onto g fs (f .spot .labels) (f .spot .iterations) (s .3) (omega arith) (omega arith) (λ p. record { some = p; set = fit .set; labels = fit .labels; depth = fit .depth; under = omega arith }) in
+    sound-onto g fs (f .spot .labels) (f .spot .iterations) (s .3) (omega arith) (omega arith) (λ p. record { some = p; set = fit .set; labels = fit .labels; depth = fit .depth; under = omega arith }) in
     let l = length-onto g fs in
     let up : Up (f .spot) (onto g fs) (least (w .kind) + 1) = record { sound = base; set = fit .set; labels = fit .labels; depth = fit .depth; under = omega arith } in
     let x = labels-reach (is-label (w .kind)) (is-loop (w .kind)) (w .number) (f .spot) os (k .labels) in
@@ -239,24 +241,28 @@ sound-next count f fs m n os ls w at k s j =
 
 pub kept : (f : Frame) (fs : List Frame) (os ls : List ℕ) → Sound (length os) (length ls) (f ∷ fs) → Kept (f .spot) (take (f .spot .labels) os) (take (f .spot .iterations) ls)
 kept f fs os ls s = record {
-    labels = length-take-le (f .spot .labels) os (s .0); iterations = length-take-le (f .spot .iterations) ls (s .1); set = s .2 .set }
+  labels = length-take-le (f .spot .labels) os (s .0);
+  iterations = length-take-le (f .spot .iterations) ls (s .1);
+  set = s .2 .set;
+}
 
 -- one accepted word
 pub left-next : (count : ℕ) (f : Frame) (fs : List Frame) (os ls : List ℕ) (w : Word) (ws : List Word) (at : ℕ) → Sound (length os) (length ls) (f ∷ fs) →
     judge count (due-of os ls f) w at ≡ Ok tt →
     Left count (risen f w fs) (opened w (take (f .spot .labels) os)) (looped f w (take (f .spot .labels) os) (take (f .spot .iterations) ls)) ws (at + 1)
-      (check count (dues os ls (f ∷ fs)) (w ∷ ws) at)
+    (check count (dues os ls (f ∷ fs)) (w ∷ ws) at)
 unfolding check
 left-next count f fs os ls w ws at s j =
     let ps = take (f .spot .labels) os in
     let ms = take (f .spot .iterations) ls in
     let k = kept f fs os ls s in
     let d : dues ps ms fs ≡ dues os ls fs =
-      dues-same fs (f .spot .labels) (f .spot .iterations) ps os ms ls (s .3) (take-take _ _ os (omega arith)) (take-take _ _ ls (omega arith)) in
+    dues-same fs (f .spot .labels) (f .spot .iterations) ps os ms ls (s .3) (take-take _ _ os (omega arith)) (take-take _ _ ls (omega arith)) in
     record {
       sound = sound-next count f fs (length os) (length ls) ps ms w at k s j;
       same = ap (λ ds. check count ds ws (at + 1)) (dues-next f w fs ps ms k (s .3) ∙ ap (next (due-of os ls f) w) d)
-        ∙ sym (ap (λ v. and-then v (check count (next (due-of os ls f) w (dues os ls fs)) ws (at + 1))) j) }
+          ∙ sym (ap (λ v. and-then v (check count (next (due-of os ls f) w (dues os ls fs)) ws (at + 1))) j);
+    }
 
 -- one refused word
 pub left-refused : (count : ℕ) (f : Frame) (fs : List Frame) (os ls : List ℕ) (w : Word) (ws : List Word) (at : ℕ) (r : TreeFault) →

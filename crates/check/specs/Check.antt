@@ -94,12 +94,12 @@ not-deep what a = cond (has-depth what) (leb (a .depth) depth-limit) true
 abbrev pub judge : ℕ → Due → Word → ℕ → Verdict
 judge count d w at =
     cond (cond (admits (d .what) (w .kind)) (allows (w .kind) (w .number)) false)
-      (cond (not-deep (d .what) (d .around))
-        (cond (is-known count (w .kind) (w .number))
-          (cond (jumps-well (w .kind) (w .number) (d .around)) (Ok tt) (Err (Jump at)))
-          (Err (Expression at)))
-        (Err (Depth at)))
-      (Err (Format at))
+    (cond (not-deep (d .what) (d .around))
+    (cond (is-known count (w .kind) (w .number))
+    (cond (jumps-well (w .kind) (w .number) (d .around)) (Ok tt) (Err (Jump at)))
+    (Err (Expression at)))
+    (Err (Depth at)))
+    (Err (Format at))
 
 -- the labels around the parts of a word: a Label's own are set on its body, a loop's label set joins the iteration set
 abbrev pub is-loop : Kind → Bool
@@ -115,8 +115,8 @@ with-labels labels set iterations a =
 abbrev pub within : Word → Around → Around
 within w a =
     cond (is-label (w .kind)) (with-labels (a .labels ++ w .number ∷ []) (a .label-set ++ w .number ∷ []) (a .iteration-set) a)
-      (cond (is-loop (w .kind)) (with-labels (a .labels) [] (a .iteration-set ++ a .label-set) a)
-        (with-labels (a .labels) [] (a .iteration-set) a))
+    (cond (is-loop (w .kind)) (with-labels (a .labels) [] (a .iteration-set ++ a .label-set) a)
+    (with-labels (a .labels) [] (a .iteration-set) a))
 
 -- what else is around a part
 abbrev pub deeper : Bool → Bool → Around → Around

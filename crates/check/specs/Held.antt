@@ -6,8 +6,8 @@ use mathlib.Core.List.{List, [], _∷_, _++_, map, reverse}
 use mathlib.Core.Path.{_≡_}
 use lib.Dec.{eqb}
 use lib.ListN.{length, take, drop}
-use Rattle.words.specs.declared.stack.Stack.{Stack}
-use Rattle.words.specs.Stack.{held}
+use Rattle.bounded.specs.declared.stack.Stack.{Stack}
+use Rattle.bounded.specs.Stack.{held}
 use Rattle.words.specs.declared.word.Word.{Word}
 use Rattle.words.specs.declared.format.What.{What}
 use Rattle.words.specs.declared.format.What.the-variants.{ListStatement, SingleStatement, ForDeclaration, Declarator, CatchParameter, Expression, SequencePart, Body, Catch, Case, CaseAfterDefault}
@@ -47,8 +47,8 @@ relabelled labels set iterations s =
 abbrev pub within-spot : Word → Spot → Spot
 within-spot w s =
     cond (is-label (w .kind)) (relabelled (s .labels + 1) (s .set + 1) (s .iterations) s)
-      (cond (is-loop (w .kind)) (relabelled (s .labels) 0 (s .iterations + s .set) s)
-        (relabelled (s .labels) 0 (s .iterations) s))
+    (cond (is-loop (w .kind)) (relabelled (s .labels) 0 (s .iterations + s .set) s)
+    (relabelled (s .labels) 0 (s .iterations) s))
 
 abbrev pub deeper-spot : Bool → Bool → Spot → Spot
 deeper-spot looping breakable s =

@@ -32,4 +32,4 @@ pub record Laws (count : ℕ) (words : List ℕ) : Type 0 where
   pub unique : (ss ts : Statements) → map read-word words ≡ encode-body ss → map read-word words ≡ encode-body ts → ss ≡ ts
   -- whatever comes after the refused word, the refusal is the same
   pub prefix : (before : List ℕ) (word : ℕ) (after other : List ℕ) (f : TreeFault) → words ≡ before ++ word ∷ after → place-of f ≡ length before →
-    check-script count (map read-word words) ≡ Err f → check-script count (map read-word (before ++ word ∷ other)) ≡ Err f
+      check-script count (map read-word words) ≡ Err f → check-script count (map read-word (before ++ word ∷ other)) ≡ Err f

@@ -55,7 +55,14 @@ fn is_expression_known(count: u32, word: Word) -> bool
 }
 
 // Holds a word against what is due: the first rule that it breaks.
-pub(crate) fn judge(count: u32, labels: &[u32], iterations: &[u32], frame: Frame, word: Word, at: usize) -> Result<(), TreeFault>
+pub(crate) fn judge(
+    count: u32,
+    labels: &[u32],
+    iterations: &[u32],
+    frame: Frame,
+    word: Word,
+    at: usize,
+) -> Result<(), TreeFault>
     ensures { λ r. ⌜ r ≡ judge-of count (due-in (now (labels .entry)) (now (iterations .entry)) frame) word at ⌝ }
 {
     if !(frame.what.admits(word.kind) && word.kind.allows(word.number)) {

@@ -53,8 +53,7 @@ fn any_effects<H: Host>(h: &H, parts: &[u32]) -> bool
 // Does nothing when run: it carries the laws into the contracts of its callers.
 fn keep_laws<H: Host>(_h: &H, _words: &[u32])
     ensures { λ _. ⌜ Sequence-laws (H·Host .model (now («_h» .entry))) (now («_words» .entry)) ⌝ }
-{
-}
+{}
 
 // The truth of an expression, where it is known: its last part's.
 pub fn truth_of<H: Host>(h: &H, words: &[u32]) -> Option<bool>

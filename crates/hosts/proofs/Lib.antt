@@ -1,2 +1,1 @@
 pub mod RowLemmas
-pub mod SheetLemmas

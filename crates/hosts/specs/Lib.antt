@@ -1,9 +1,3 @@
 pub mod Common
 pub mod RowWord
 pub mod RowLaws
-pub mod Rows
-pub mod RowsLaws
-pub mod SheetRows
-pub mod SheetModel
-pub mod SheetAnswers
-pub mod SheetLaws

@@ -1,9 +1,4 @@
-// The two hosts: rows of numbers, and a sheet of values.
+// What the hosts share: the words of rows, the refusals to make a host, and granted names.
 pub mod fault;
-mod granted;
-pub mod literals;
-mod row;
-mod row_word;
-pub mod rows;
-pub mod sheet;
-mod sheet_row;
+pub mod granted;
+pub mod row_word;

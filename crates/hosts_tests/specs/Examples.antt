@@ -12,7 +12,7 @@ use Rattle.values.specs.declared.sheet_value.SheetValue.the-variants.{Number}
 use Rattle.hosts.specs.RowWord.{literal-0, literal-1}
 use Rattle.values.specs.Strict.{boolean, number, integer, not-a-number}
 use Rattle.values.specs.SheetValues.{listed}
-use Rattle.hosts.specs.SheetModel.{largest-answer, sheet-model}
+use Rattle.sheet.specs.SheetModel.{largest-answer, sheet-model}
 
 -- kind 5
 abbrev pub command-word : ℕ

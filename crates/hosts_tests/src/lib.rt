@@ -1,7 +1,7 @@
 // Tests of the two hosts, at their limits and row by row.
 ghost use mathlib.Core.Path.{_≡_};
 ghost use lib.IntN.{pos};
-ghost use Rattle.hosts.specs.SheetModel.{largest-answer};
+ghost use Rattle.sheet.specs.SheetModel.{largest-answer};
 ghost use Rattle.hosts_tests.specs.Examples.{Examples};
 
 #[cfg(test)]

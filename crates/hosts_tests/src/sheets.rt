@@ -4,9 +4,9 @@ use host::Host;
 use hosts::fault::HostFault;
 use hosts::fault::HostFaultDebug;
 use hosts::fault::HostFaultPartialEq;
-use hosts::literals::Literals;
-use hosts::sheet::Sheet;
-use hosts::sheet::SheetHost;
+use sheet::Sheet;
+use sheet::SheetHost;
+use sheet::literals::Literals;
 use std::test::*;
 use values::sheet_value::SheetValue;
 

@@ -9,8 +9,8 @@ use crate::problem::Problem;
 use crate::row::read_row;
 use crate::value::read_text;
 use crate::value::read_value;
-use values::sheet_value::SheetValue;
 use std::alloc::Global;
+use values::sheet_value::SheetValue;
 use words::word::NUMBER_LIMIT;
 
 #[derive(Clone, Copy, PartialEq, Eq)]
@@ -138,7 +138,11 @@ impl Job {
             return Err(LineFault::Syntax(Problem::BadName));
         }
         let number = read_number(number)?;
-        self.names.push(Name { text: String::from_str(heap, name)?, number })?;
+        self.names
+            .push(Name {
+                text: String::from_str(heap, name)?,
+                number,
+            })?;
         Ok(())
     }
 
@@ -230,18 +234,27 @@ impl Job {
         for line in text.lines() {
             number = number.saturating_add(1);
             if let Err(fault) = job.gather(heap, line) {
-                return Err(JobFault { line: number, fault });
+                return Err(JobFault {
+                    line: number,
+                    fault,
+                });
             }
         }
         number = 0;
         for line in text.lines() {
             number = number.saturating_add(1);
             if let Err(fault) = job.read_line(heap, line) {
-                return Err(JobFault { line: number, fault });
+                return Err(JobFault {
+                    line: number,
+                    fault,
+                });
             }
         }
         if job.part == Part::InScript {
-            return Err(JobFault { line: number, fault: LineFault::Syntax(Problem::OpenScript) });
+            return Err(JobFault {
+                line: number,
+                fault: LineFault::Syntax(Problem::OpenScript),
+            });
         }
         Ok(job)
     }

@@ -56,10 +56,33 @@ fn template(kind: Kind, zero: bool) -> &'static [Item] {
     match kind {
         Kind::Empty => &[Item::Text(";")],
         Kind::Expr => &[Item::Expression, Item::Text(";")],
-        Kind::If if zero => &[Item::Text("if ("), Item::Expression, Item::Text(") "), Item::Statement],
-        Kind::If => &[Item::Text("if ("), Item::Expression, Item::Text(") "), Item::Statement, Item::Text(" else "), Item::Statement],
-        Kind::While => &[Item::Text("while ("), Item::Expression, Item::Text(") "), Item::Statement],
-        Kind::Do => &[Item::Text("do "), Item::Statement, Item::Text(" while ("), Item::Expression, Item::Text(");")],
+        Kind::If if zero => &[
+            Item::Text("if ("),
+            Item::Expression,
+            Item::Text(") "),
+            Item::Statement,
+        ],
+        Kind::If => &[
+            Item::Text("if ("),
+            Item::Expression,
+            Item::Text(") "),
+            Item::Statement,
+            Item::Text(" else "),
+            Item::Statement,
+        ],
+        Kind::While => &[
+            Item::Text("while ("),
+            Item::Expression,
+            Item::Text(") "),
+            Item::Statement,
+        ],
+        Kind::Do => &[
+            Item::Text("do "),
+            Item::Statement,
+            Item::Text(" while ("),
+            Item::Expression,
+            Item::Text(");"),
+        ],
         Kind::Switch => &[Item::Text("switch ("), Item::Expression, Item::Text(") {")],
         Kind::Break => &[Item::Text("break;")],
         Kind::Continue => &[Item::Text("continue;")],
@@ -71,15 +94,21 @@ fn template(kind: Kind, zero: bool) -> &'static [Item] {
 }
 
 static END_OF_LIST: [Item; 3] = [Item::Outward, Item::Line, Item::Text("}")];
+
 static END_OF_FOR: [Item; 2] = [Item::Text(") "), Item::Statement];
+
 static AFTER_SEMICOLON: [Item; 2] = [Item::Text(" "), Item::Expression];
+
 static FINALLY: [Item; 2] = [Item::Text(" finally "), Item::Body];
 
 impl<'a> Printer<'a> {
     fn next(&mut self) -> Word {
         let word = match self.words.get(self.at) {
             Some(word) => Word::read(*word),
-            None => Word { kind: Kind::Unlisted, number: 0 },
+            None => Word {
+                kind: Kind::Unlisted,
+                number: 0,
+            },
         };
         self.at = self.at.saturating_add(1);
         word
@@ -302,8 +331,20 @@ impl<'a> Printer<'a> {
 }
 
 // The text of an accepted script, a statement to a line.
-pub(crate) fn script_text<'a>(heap: Global, job: &'a Job, words: &'a [u32]) -> Result<String, AllocError> {
-    let mut printer = Printer { job, heap, words, at: 0, indent: 1, due: Vec::new(heap), out: String::new(heap) };
+pub(crate) fn script_text<'a>(
+    heap: Global,
+    job: &'a Job,
+    words: &'a [u32],
+) -> Result<String, AllocError> {
+    let mut printer = Printer {
+        job,
+        heap,
+        words,
+        at: 0,
+        indent: 1,
+        due: Vec::new(heap),
+        out: String::new(heap),
+    };
     let body = printer.next();
     printer.later(Item::List(body.number))?;
     for _ in 0..words.len().saturating_mul(ITEMS_A_WORD) {
@@ -312,6 +353,14 @@ pub(crate) fn script_text<'a>(heap: Global, job: &'a Job, words: &'a [u32]) -> R
             None => break,
         }
     }
-    let Printer { job: _, heap: _, words: _, at: _, indent: _, due: _, out } = printer;
+    let Printer {
+        job: _,
+        heap: _,
+        words: _,
+        at: _,
+        indent: _,
+        due: _,
+        out,
+    } = printer;
     Ok(out)
 }

@@ -26,16 +26,20 @@ impl Problem {
         match self {
             Problem::NoHost => "the job names no host",
             Problem::SecondHost => "the job names its host twice",
-            Problem::UnknownLine => "a line begins with host, entry, row, name, grant, space, used, working, drop or script, and has what belongs to it",
+            Problem::UnknownLine =>
+                "a line begins with host, entry, row, name, grant, space, used, working, drop or script, and has what belongs to it",
             Problem::UnknownRow => "this host has no such row",
-            Problem::BadName => "a name begins with a letter and has letters, digits and underscores",
+            Problem::BadName =>
+                "a name begins with a letter and has letters, digits and underscores",
             Problem::NameTaken => "the name is taken",
             Problem::UnknownName => "nothing has this name",
             Problem::BadNumber => "no whole number that fits here",
-            Problem::BadValue => "no value: write true, false, NaN, -0, a whole number of 32 bits, or a text of 1 to 16 bytes in quotes",
+            Problem::BadValue =>
+                "no value: write true, false, NaN, -0, a whole number of 32 bits, or a text of 1 to 16 bytes in quotes",
             Problem::OpenText => "the text has no closing quote",
             Problem::AfterText => "only a comment may stand after a text",
-            Problem::UnknownWord => "a word of a script is a kind's name, and a number if that is not 0",
+            Problem::UnknownWord =>
+                "a word of a script is a kind's name, and a number if that is not 0",
             Problem::OpenScript => "the script has no line `end`",
         }
     }

@@ -14,15 +14,15 @@ use check::fault::ReaderFault;
 use check::fault::TreeFault;
 use host::Host;
 use hosts::fault::HostFault;
-use hosts::literals::Literals;
-use hosts::rows::Rows;
-use hosts::rows::RowsHost;
-use hosts::sheet::Sheet;
-use hosts::sheet::SheetHost;
-use values::sheet_value::SheetValue;
+use rows::Rows;
+use rows::RowsHost;
+use sheet::Sheet;
+use sheet::SheetHost;
+use sheet::literals::Literals;
 use std::alloc::AllocError;
 use std::alloc::Global;
 use std::io;
+use values::sheet_value::SheetValue;
 use words::refusal::Layer;
 use words::refusal::Refusal;
 
@@ -40,7 +40,10 @@ fn print_refusal(rt: &LibcRuntime, refusal: Refusal, reason: &str) -> io::Result
     let number = refusal.number;
     let layer = layer_name(refusal.layer);
     let place = refusal.place;
-    println!(rt, "refused: number {number}, layer {layer}, place {place}: {reason}")
+    println!(
+        rt,
+        "refused: number {number}, layer {layer}, place {place}: {reason}"
+    )
 }
 
 fn host_reason(fault: HostFault) -> &'static str {
@@ -48,7 +51,8 @@ fn host_reason(fault: HostFault) -> &'static str {
         HostFault::RowCount(_) => "a host has 2 to 4,096 rows",
         HostFault::Row(0) => "row 0 must be the literal 0",
         HostFault::Row(1) => "row 1 must be the literal 1",
-        HostFault::Row(_) => "the row is of no kind that this host has, or what it looks at is not there, not earlier or of the wrong kind",
+        HostFault::Row(_) =>
+            "the row is of no kind that this host has, or what it looks at is not there, not earlier or of the wrong kind",
     }
 }
 
@@ -80,7 +84,10 @@ where
     let truth = truth_name(host.truth(e));
     let effects = if host.effects(e) { "some" } else { "none" };
     let literal = if host.literal(e) { "yes" } else { "no" };
-    println!(rt, "{e:>10}  {text:<24} {value:<18} {truth:<8} {effects:<8} {literal}")
+    println!(
+        rt,
+        "{e:>10}  {text:<24} {value:<18} {truth:<8} {effects:<8} {literal}"
+    )
 }
 
 fn print_granted<H: Host>(rt: &LibcRuntime, job: &Job, host: &H) -> io::Result<()> {
@@ -104,7 +111,10 @@ where
 {
     let count = host.count();
     println!(rt, "{kind} host, {count} expressions")?;
-    println!(rt, "expression  text                     value              truth    effects  literal")?;
+    println!(
+        rt,
+        "expression  text                     value              truth    effects  literal"
+    )?;
     for e in 0..count {
         print_row(rt, job, host, e)?;
     }
@@ -117,12 +127,16 @@ fn call_reason(fault: CallFault) -> &'static str {
         CallFault::TooLong(_) => "a script has at most 16,000 words",
         CallFault::WorkingWords(_) => "there must be four working words for each word used",
         CallFault::Labels(_) => "at most 16 labels can be dropped",
-        CallFault::Tree(TreeFault::Reader(ReaderFault::WordDue(_))) => "a word is due here, and none is left",
-        CallFault::Tree(TreeFault::Format(_)) => "a word of this kind and number may not stand here",
+        CallFault::Tree(TreeFault::Reader(ReaderFault::WordDue(_))) =>
+            "a word is due here, and none is left",
+        CallFault::Tree(TreeFault::Format(_)) =>
+            "a word of this kind and number may not stand here",
         CallFault::Tree(TreeFault::Depth(_)) => "more than 100 statements are around this one",
         CallFault::Tree(TreeFault::Expression(_)) => "the host has no such expression",
-        CallFault::Tree(TreeFault::Jump(_)) => "the jump has no target around it, or the label stands inside itself",
-        CallFault::Tree(TreeFault::Reader(ReaderFault::WordsLeft(_))) => "the script has ended, and words are left over",
+        CallFault::Tree(TreeFault::Jump(_)) =>
+            "the jump has no target around it, or the label stands inside itself",
+        CallFault::Tree(TreeFault::Reader(ReaderFault::WordsLeft(_))) =>
+            "the script has ended, and words are left over",
         CallFault::NoSuchPlace(_) => "the script has no statement at this place",
         CallFault::NoAlternate(_) => "a stub is due for an alternate that is not there",
     }
@@ -146,8 +160,15 @@ fn print_load<H: Host>(rt: &LibcRuntime, job: &Job, host: &H) -> io::Result<bool
     let script = job.script.as_slice();
     let used = job.used.unwrap_or(script.len());
     let mut space = lent_space(rt.alloc(), script, job.space.unwrap_or(script.len()))?;
-    let mut working = vec![in rt.alloc(); 0u32; job.working.unwrap_or(used.saturating_mul(WORKING_SHARE))]?;
-    match load(host, space.as_mut_slice(), used, working.as_mut_slice(), job.dropped.as_slice()) {
+    let mut working = vec![in rt.alloc(); 0u32; job.working
+        .unwrap_or(used.saturating_mul(WORKING_SHARE))]?;
+    match load(
+        host,
+        space.as_mut_slice(),
+        used,
+        working.as_mut_slice(),
+        job.dropped.as_slice(),
+    ) {
         Ok(record) => {
             let words = space.as_slice().get(0..used).unwrap_or(&[]);
             print_script(rt, job, words, record)?;
@@ -178,7 +199,12 @@ where
     Ok(Made::Loaded(print_load(rt, job, host)?))
 }
 
-fn print_rows<'a>(rt: &LibcRuntime, job: &Job, rows: &'a [u32], names: &'a [u32]) -> io::Result<Made> {
+fn print_rows<'a>(
+    rt: &LibcRuntime,
+    job: &Job,
+    rows: &'a [u32],
+    names: &'a [u32],
+) -> io::Result<Made> {
     let mut host: Rows<'a> = Rows::least();
     match host.make(rows, names) {
         Ok(()) => print_made(rt, job, &host, "row"),

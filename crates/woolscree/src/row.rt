@@ -12,14 +12,23 @@ use words::word::NUMBER_LIMIT;
 
 // The kinds of rows of the two hosts.
 const ROWS_LITERAL: u32 = 1;
+
 const ROWS_CONSTANT: u32 = 2;
+
 const ROWS_COMMAND: u32 = 3;
+
 const ROWS_ASK: u32 = 4;
+
 const ROWS_SENT: u32 = 5;
+
 const SHEET_LITERAL: u32 = 1;
+
 const SHEET_CONSTANT: u32 = 2;
+
 const SHEET_IS_FALSE: u32 = 3;
+
 const SHEET_EQUAL: u32 = 4;
+
 const SHEET_ASK: u32 = 5;
 
 // A kind has 5 bits.
@@ -87,7 +96,11 @@ fn read_sheet_row(entries: &[String], rows: &[String], words: &[&str]) -> Result
 pub(crate) fn read_row(job: &Job, host: HostKind, words: &[&str]) -> Result<u32, Problem> {
     match host {
         HostKind::Rows => read_rows_row(words),
-        HostKind::Sheet => read_sheet_row(job.entry_names.as_slice(), job.row_names.as_slice(), words),
+        HostKind::Sheet => read_sheet_row(
+            job.entry_names.as_slice(),
+            job.row_names.as_slice(),
+            words,
+        ),
     }
 }
 
@@ -106,7 +119,13 @@ fn entry_text(heap: Global, job: &Job, entry: u32) -> Result<String, AllocError>
     }
 }
 
-fn rows_text(heap: Global, job: &Job, e: u32, kind: u32, number: u32) -> Result<String, AllocError> {
+fn rows_text(
+    heap: Global,
+    job: &Job,
+    e: u32,
+    kind: u32,
+    number: u32,
+) -> Result<String, AllocError> {
     let name = row_name(heap, job, e)?;
     match kind {
         ROWS_LITERAL => format!(heap, "{number}"),
@@ -128,7 +147,13 @@ fn operand_text(heap: Global, job: &Job, row: u32) -> Result<String, AllocError>
     }
 }
 
-fn sheet_text(heap: Global, job: &Job, e: u32, kind: u32, number: u32) -> Result<String, AllocError> {
+fn sheet_text(
+    heap: Global,
+    job: &Job,
+    e: u32,
+    kind: u32,
+    number: u32,
+) -> Result<String, AllocError> {
     match kind {
         SHEET_IS_FALSE => {
             let operand = operand_text(heap, job, number)?;

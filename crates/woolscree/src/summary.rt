@@ -2,9 +2,9 @@
 use crate::job::Job;
 use crate::pretty::script_text;
 use calls::record::Record;
+use scan::find_statement;
+use scan::statements;
 use std::io;
-use words::scan::find_statement;
-use words::scan::statements;
 use words::word::Kind;
 use words::word::KindDebug;
 use words::word::Word;
@@ -48,7 +48,12 @@ fn print_hoisted(rt: &LibcRuntime, job: &Job, words: &[u32]) -> io::Result<()> {
     println!(rt, "")
 }
 
-pub(crate) fn print_script<'a>(rt: &LibcRuntime, job: &'a Job, words: &'a [u32], record: Record) -> io::Result<()> {
+pub(crate) fn print_script<'a>(
+    rt: &LibcRuntime,
+    job: &'a Job,
+    words: &'a [u32],
+    record: Record,
+) -> io::Result<()> {
     let text = script_text(rt.alloc(), job, words)?;
     println!(rt, "script:{text}")?;
     print_places(rt, words)?;
@@ -56,5 +61,8 @@ pub(crate) fn print_script<'a>(rt: &LibcRuntime, job: &'a Job, words: &'a [u32],
     let used = record.used;
     let weight = record.weight;
     let changes = record.changes;
-    println!(rt, "record: {used} words used, weight {weight}, {changes} changes")
+    println!(
+        rt,
+        "record: {used} words used, weight {weight}, {changes} changes"
+    )
 }

@@ -1,9 +1,9 @@
 // Values of the two hosts as text.
 use crate::problem::Problem;
-use values::sheet_value::SheetValue;
-use values::text::Text;
 use std::alloc::AllocError;
 use std::alloc::Global;
+use values::sheet_value::SheetValue;
+use values::text::Text;
 
 // The value that stands in a job without quotes.
 pub(crate) fn read_value(word: &str) -> Result<SheetValue, Problem> {

@@ -1,8 +1,1 @@
 pub mod Coding
-pub mod Stacks
-pub mod Skips
-pub mod Seen
-pub mod Unique
-pub mod Walks
-pub mod Weights
-pub mod Placed

@@ -35,7 +35,7 @@ const FEWEST_DECLARATORS: u32 = 1;
 const SHORTEST_SEQUENCE: u32 = 2;
 
 // 1 where a number is a sum with such a part in it, else 0.
-pub(crate) fn has(part: u32, number: u32) -> u32
+pub fn has(part: u32, number: u32) -> u32
     requires { ⌜ 0 < part ⌝ }
     ensures value { λ r. ⌜ r ≡ has part number ⌝ }
     ensures small { λ r. ⌜ r ≤ 1 ⌝ }
@@ -144,7 +144,7 @@ impl What {
 
 impl Kind {
     // Whether the kind's number lies between those of two others.
-    pub(crate) fn is_between(self, low: Kind, high: Kind) -> bool
+    pub fn is_between(self, low: Kind, high: Kind) -> bool
         ensures { λ r. ⌜ r ≡ from-to low high self ⌝ }
     {
         low.code() <= self.code() && self.code() <= high.code()

@@ -49,6 +49,9 @@ pub struct Word {
 // A word's number is below this, 2 to the 27th.
 pub const NUMBER_LIMIT: u32 = 0x800_0000;
 
+// The most words that a script may have.
+pub const MAX_WORDS: usize = 16_000;
+
 const KIND_COUNT: u32 = 28;
 
 // The kinds, each at its number.

@@ -5,7 +5,7 @@ use lib.ListN.{length, length-append}
 use borrow.Author.Tests.{ne-eqb}
 use Rattle.std.proofs.shelf.Lists.{reverse-append}
 use Rattle.std.proofs.shelf.Tests.{cond-false}
-use Rattle.words.specs.Stack.{held}
+use Rattle.bounded.specs.Stack.{held}
 use Rattle.check.proofs.script.need.Needs as need
 
 pub returns-then-frame-ne0 : need.returns-then-frame-ne0
@@ -15,4 +15,5 @@ returns-then-frame-ne0 c =
       held = ap reverse (c .put .ensures .held) ∙ reverse-append (held s) (c .args .frame ∷ []) ∙ sym (cond-false _ _ _ (ne-eqb _ _ (c .if-frame-ne0 .taken)));
       len = omega (arith, simp length-append at (ap length (c .put .ensures .held)));
       room = c .put .ensures .room;
-      lender = c .put .ensures .lender }
+      lender = c .put .ensures .lender;
+    }

@@ -2,7 +2,7 @@ use mathlib.Core.Path.{_≡_}
 use mathlib.Core.List.{_++_}
 use denote.Ref.{name}
 use lib.ListN.{take}
-use Rattle.words.specs.Stack.{held, room}
+use Rattle.bounded.specs.Stack.{held, room}
 use Rattle.check.proofs.script.put_all.Given as given
 
 abbrev pub Inv-loop-i : given.InvT-loop-i

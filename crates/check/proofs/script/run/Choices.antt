@@ -3,7 +3,7 @@ use mathlib.Core.Path.{_≡_}
 use mathlib.Core.List.{map}
 use lib.ListN.{length, drop}
 use Rattle.words.specs.Words.{read-word}
-use Rattle.words.specs.Stack.{held, room}
+use Rattle.bounded.specs.Stack.{held, room}
 use Rattle.check.specs.Check.{check-script}
 use Rattle.check.specs.Held.{Left, frames-of}
 use Rattle.check.proofs.script.run.Given as given

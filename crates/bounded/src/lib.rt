@@ -1,0 +1,2 @@
+// Containers of fixed room over lent memory: the stack.
+pub mod stack;

@@ -1,0 +1,4 @@
+pub mod SheetRows
+pub mod SheetModel
+pub mod SheetAnswers
+pub mod SheetLaws
