@@ -1,0 +1,9 @@
+pub mod Block
+pub mod Labeled
+pub mod Try
+pub mod For
+pub mod If
+pub mod Select
+pub mod Switch
+pub mod SwitchAccepted
+pub mod SwitchNames

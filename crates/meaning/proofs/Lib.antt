@@ -1,0 +1,16 @@
+mod Within
+mod Rounds
+mod Unroll
+mod Terminated
+mod Script
+mod Standard
+mod Sequencing
+mod Evaluations
+mod Surroundings
+mod Keeps
+mod Fold
+mod Closed
+mod KeepsRun
+mod Names
+mod KeepsNames
+mod Measure

@@ -1,0 +1,10 @@
+pub mod Completion
+pub mod Run
+pub mod Fold
+pub mod Laws
+pub mod VarDeclaredNames
+pub mod CaseBlock
+pub mod Standard
+pub mod Pass
+pub mod Step
+pub mod FoldLaws
