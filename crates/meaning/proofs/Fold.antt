@@ -7,3 +7,8 @@ pub mod Select
 pub mod Switch
 pub mod SwitchAccepted
 pub mod SwitchNames
+pub mod Bounds
+pub mod IfBounds
+pub mod SelectBounds
+pub mod SwitchBounds
+pub mod SwitchBreak

@@ -1,3 +1,4 @@
+mod Lists
 mod Within
 mod Rounds
 mod Unroll
@@ -14,3 +15,9 @@ mod KeepsRun
 mod Names
 mod KeepsNames
 mod Measure
+mod Bound
+mod Scales
+mod Paid
+mod Places
+mod Witness
+mod Computed

@@ -20,6 +20,41 @@ use Rattle.meaning.specs.Fold.IsTerminated.{all-bare, is-bare-var}
 use Rattle.meaning.specs.Fold.If.{not-granted}
 use Rattle.meaning.specs.Fold.Select.{join}
 
+pub length-append : (xs ys : List ℕ) → length (xs ++ ys) ≡ length xs + length ys
+length-append [] ys = omega arith
+length-append (x ∷ xs) ys = let p : length (xs ++ ys) ≡ length xs + length ys = length-append xs ys in omega arith
+
+bound-least : (ds : List Declarator) → length (bound-names ds) ≤ weight-declarators ds
+bound-least [] = omega arith
+bound-least (Name x ∷ ds) = let p : length (bound-names ds) ≤ weight-declarators ds = bound-least ds in omega arith
+bound-least (NameInit x e ∷ ds) = let p : length (bound-names ds) ≤ weight-declarators ds = bound-least ds in omega arith
+
+one-expression : (e : Expression) → 1 ≤ weight-expression e
+one-expression (expression x []) = omega arith
+one-expression (expression x (y ∷ ys)) = omega arith
+
+-- an initializer counts
+bound-less : (ds : List Declarator) → all-bare ds ≡ false → length (bound-names ds) + 1 ≤ weight-declarators ds
+bound-less [] q = absurd (let y : _≡_ {A = ℕ} 0 1 = cc in omega arith)
+bound-less (Name x ∷ ds) q = let p : length (bound-names ds) + 1 ≤ weight-declarators ds = bound-less ds q in omega arith
+bound-less (NameInit x e ∷ ds) q = let p : length (bound-names ds) ≤ weight-declarators ds = bound-least ds in let r : 1 ≤ weight-expression e = one-expression e in omega arith
+
+pub names-weight : (xs : List ℕ) → weight-declarators (map Name xs) ≡ length xs
+names-weight [] = refl
+names-weight (x ∷ xs) = let p : weight-declarators (map Name xs) ≡ length xs = names-weight xs in omega arith
+
+pub append-weight : (ds : List Declarator) (xs : List ℕ) → weight-declarators (ds ++ map Name xs) ≡ weight-declarators ds + length xs
+append-weight [] xs = let p : weight-declarators (map Name xs) ≡ length xs = names-weight xs in omega arith
+append-weight (d ∷ ds) xs = let p : weight-declarators (ds ++ map Name xs) ≡ weight-declarators ds + length xs = append-weight ds xs in omega arith
+
+pub granted-length : (m : Model) (xs : List ℕ) → length (not-granted m xs) ≤ length xs
+granted-length m [] = omega arith
+granted-length m (x ∷ xs) = go (m .granted? x) (granted-length m xs)
+  where
+    go : (b : Bool) → length (not-granted m xs) ≤ length xs → length (cond b (not-granted m xs) (x ∷ not-granted m xs)) ≤ suc (length xs)
+    go true p = omega arith
+    go false p = omega arith
+
 pub record Scale : Type 0 where
   pub unit : ℕ
   pub small : unit ≤ 1
@@ -125,6 +160,76 @@ module _ (z : Scale) where
   cost-apart (suc n) zero x y p q a b = let u : z .unit ≤ 1 = z .small in let e : suc n + 0 ≡ suc n = omega arith in let P : ℕ → Type 0 = λ j. stub-cost j + z .unit ≤ x + y in subst P (sym e) (omega arith)
   cost-apart (suc n) (suc k) x y p q a b = let u : z .unit ≤ 1 = z .small in let r : stub-cost (suc n + suc k) ≤ own + (suc n + suc k) = cost-most (suc n + suc k) in omega arith
 
-length-append : (xs ys : List ℕ) → length (xs ++ ys) ≡ length xs + length ys
-length-append [] ys = omega arith
-length-append (x ∷ xs) ys = let p : length (xs ++ ys) ≡ length xs + length ys = length-append xs ys in omega arith
+  pub names-both : (xs ys : List ℕ) (a b : ℕ) → stub-cost (length xs) ≤ a → stub-cost (length ys) ≤ b → stub-cost (length (xs ++ ys)) ≤ a + b
+  names-both xs ys a b p q = let P : ℕ → Type 0 = λ j. stub-cost j ≤ a + b in subst P (sym (length-append xs ys)) (cost-both (length xs) (length ys) a b p q)
+
+  pub more : (n k j : ℕ) → stub-cost n ≤ k → k ≤ j → stub-cost n ≤ j
+  more n k j p q = omega arith
+
+  less : (n k j : ℕ) → stub-cost n ≤ k → k + own ≤ j → stub-cost n + z .unit ≤ j
+  less n k j p q = omega arith
+
+  start-cost : (i : Start) → stub-cost (length (keep-start i)) ≤ measure-start i
+  start-cost no-start = omega arith
+  start-cost (start-expression e) = omega arith
+  start-cost (start-var d ds) = let p : length (bound-names (d ∷ ds)) ≤ weight-declarators (d ∷ ds) = bound-least (d ∷ ds) in omega arith
+  start-cost (start-let d ds) = omega arith
+
+  -- the names of a statement, as a stub, measure no more than it
+  mutual
+    unfolding keep-var
+
+    pub names-cost : (s : Statement) → stub-cost (length (keep-var s)) ≤ measure s
+    names-cost Empty = omega arith
+    names-cost Break = omega arith
+    names-cost Continue = omega arith
+    names-cost (Block ss) = more _ (measure-list ss) _ (list-cost ss) (omega arith)
+    names-cost (Expr e) = omega arith
+    names-cost (Throw e) = omega arith
+    names-cost (Var d ds) = let p : length (bound-names (d ∷ ds)) ≤ weight-declarators (d ∷ ds) = bound-least (d ∷ ds) in omega arith
+    names-cost (If e s) = more _ (measure s) _ (names-cost s) (omega arith)
+    names-cost (IfElse e s t) = more _ (measure s + measure t) _ (names-both (keep-var s) (keep-var t) (measure s) (measure t) (names-cost s) (names-cost t)) (omega arith)
+    names-cost (For i t u s) = more _ (measure-start i + measure s) _ (names-both (keep-start i) (keep-var s) (measure-start i) (measure s) (start-cost i) (names-cost s)) (omega arith)
+    names-cost (While e s) = more _ (measure s) _ (names-cost s) (omega arith)
+    names-cost (Do s e) = more _ (measure s) _ (names-cost s) (omega arith)
+    names-cost (Switch e cs) = more _ (measure-cases cs) _ (cases-cost cs) (omega arith)
+    names-cost (Label l s) = more _ (measure s) _ (names-cost s) (omega arith)
+    names-cost (BreakTo l) = omega arith
+    names-cost (ContinueTo l) = omega arith
+    names-cost (Return e) = omega arith
+    names-cost (TryCatch b x c) = more _ (measure-list b + measure-list c) _ (names-both (keep-list b) (keep-list c) (measure-list b) (measure-list c) (list-cost b) (list-cost c)) (omega arith)
+    names-cost (TryFinally b f) = more _ (measure-list b + measure-list f) _ (names-both (keep-list b) (keep-list f) (measure-list b) (measure-list f) (list-cost b) (list-cost f)) (omega arith)
+    names-cost (TryBoth b x c f) = more _ (measure-list b + (measure-list c + measure-list f)) _ (names-both (keep-list b) (keep-list c ++ keep-list f) (measure-list b) (measure-list c + measure-list f) (list-cost b) (names-both (keep-list c) (keep-list f) (measure-list c) (measure-list f) (list-cost c) (list-cost f))) (omega arith)
+
+    pub list-cost : (ss : Statements) → stub-cost (length (keep-list ss)) ≤ measure-list ss
+    list-cost none = omega arith
+    list-cost (some s ss) = names-both (keep-var s) (keep-list ss) (measure s) (measure-list ss) (names-cost s) (list-cost ss)
+    list-cost (Let d ds ss) = more _ (measure-list ss) _ (list-cost ss) (omega arith)
+
+    pub cases-cost : (cs : Cases) → stub-cost (length (keep-cases cs)) ≤ measure-cases cs
+    cases-cost no-case = omega arith
+    cases-cost (case t ss cs) = more _ (measure-list ss + measure-cases cs) _ (names-both (keep-list ss) (keep-cases cs) (measure-list ss) (measure-cases cs) (list-cost ss) (cases-cost cs)) (omega arith)
+
+  -- and less by the unit where it is no stub itself
+  pub names-less : (s : Statement) → is-bare-var s ≡ false → stub-cost (length (keep-var s)) + z .unit ≤ measure s
+  unfolding keep-var is-bare-var
+  names-less Empty q = let u : z .unit ≤ 1 = z .small in omega arith
+  names-less Break q = let u : z .unit ≤ 1 = z .small in omega arith
+  names-less Continue q = let u : z .unit ≤ 1 = z .small in omega arith
+  names-less (Block ss) q = less (length (keep-list ss)) (measure-list ss) _ (list-cost ss) (omega arith)
+  names-less (Expr e) q = let u : z .unit ≤ 1 = z .small in omega arith
+  names-less (Throw e) q = let u : z .unit ≤ 1 = z .small in omega arith
+  names-less (Var d ds) q = let u : z .unit ≤ 1 = z .small in let p : length (bound-names (d ∷ ds)) + 1 ≤ weight-declarators (d ∷ ds) = bound-less (d ∷ ds) q in omega arith
+  names-less (If e s) q = less (length (keep-var s)) (measure s) _ (names-cost s) (omega arith)
+  names-less (IfElse e s t) q = less (length (keep-var s ++ keep-var t)) (measure s + measure t) _ (names-both (keep-var s) (keep-var t) (measure s) (measure t) (names-cost s) (names-cost t)) (omega arith)
+  names-less (For i t u s) q = less (length (keep-start i ++ keep-var s)) (measure-start i + measure s) _ (names-both (keep-start i) (keep-var s) (measure-start i) (measure s) (start-cost i) (names-cost s)) (omega arith)
+  names-less (While e s) q = less (length (keep-var s)) (measure s) _ (names-cost s) (omega arith)
+  names-less (Do s e) q = less (length (keep-var s)) (measure s) _ (names-cost s) (omega arith)
+  names-less (Switch e cs) q = less (length (keep-cases cs)) (measure-cases cs) _ (cases-cost cs) (omega arith)
+  names-less (Label l s) q = less (length (keep-var s)) (measure s) _ (names-cost s) (omega arith)
+  names-less (BreakTo l) q = let u : z .unit ≤ 1 = z .small in omega arith
+  names-less (ContinueTo l) q = let u : z .unit ≤ 1 = z .small in omega arith
+  names-less (Return e) q = let u : z .unit ≤ 1 = z .small in omega arith
+  names-less (TryCatch b x c) q = less (length (keep-list b ++ keep-list c)) (measure-list b + measure-list c) _ (names-both (keep-list b) (keep-list c) (measure-list b) (measure-list c) (list-cost b) (list-cost c)) (omega arith)
+  names-less (TryFinally b f) q = less (length (keep-list b ++ keep-list f)) (measure-list b + measure-list f) _ (names-both (keep-list b) (keep-list f) (measure-list b) (measure-list f) (list-cost b) (list-cost f)) (omega arith)
+  names-less (TryBoth b x c f) q = less (length (keep-list b ++ (keep-list c ++ keep-list f))) (measure-list b + (measure-list c + measure-list f)) _ (names-both (keep-list b) (keep-list c ++ keep-list f) (measure-list b) (measure-list c + measure-list f) (list-cost b) (names-both (keep-list c) (keep-list f) (measure-list c) (measure-list f) (list-cost c) (list-cost f))) (omega arith)

@@ -8,3 +8,7 @@ pub mod Standard
 pub mod Pass
 pub mod Step
 pub mod FoldLaws
+pub mod ChangeLaws
+pub mod StepLaws
+pub mod Witness
+pub mod Examples

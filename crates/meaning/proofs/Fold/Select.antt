@@ -23,22 +23,7 @@ use Rattle.meaning.specs.Fold.Select.{Entry, matched, default, missing, Standi
 use Rattle.meaning.proofs.Sequencing.{then-normal, normal-then, eval-then, abrupt-then, run-join, run-stub-list, lets-join, lets-stub-list}
 use Rattle.meaning.proofs.Evaluations.{all-then, eval-all, eval-value, all-idle, then-append, value-append, append-nil}
 use Rattle.meaning.proofs.Terminated.{abrupt-list}
-
-pub cond-same : {A : Type 0} (b : Bool) (f : A) → cond b f f ≡ f
-cond-same true f = refl
-cond-same false f = refl
-
-pub nil-left : (a b : List ℕ) → a ++ b ≡ [] → a ≡ []
-nil-left [] b q = refl
-nil-left (x ∷ a) b q = cc
-
-pub nil-right : (a b : List ℕ) → a ++ b ≡ [] → b ≡ []
-nil-right [] b q = q
-nil-right (x ∷ a) b q = cc
-
-pub nil-both : (a b : List ℕ) → a ≡ [] → b ≡ [] → a ++ b ≡ []
-nil-both [] b p q = q
-nil-both (x ∷ a) b p q = cc
+use Rattle.meaning.proofs.Lists.{cond-same, nil-left, nil-right, nil-both}
 
 -- no Let comes in
 clean-bodies : (st : Standing) (cs : Cases) → let-names-cases cs ≡ [] → let-names (bodies st cs) ≡ []
