@@ -21,3 +21,4 @@ mod Paid
 mod Places
 mod Witness
 mod Computed
+mod KeepsRules

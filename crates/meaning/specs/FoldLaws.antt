@@ -1,6 +1,6 @@
--- What folding keeps, with no labels to drop. For every lawful host: the rules of a script and its run, from every
--- world and with any number of rounds left. For every host: its hoisted names, but for granted ones.
-use Prim.Native.Nat.{ℕ}
+-- What folding keeps. Whatever labels are to be dropped: the rules of a script. With no labels to drop: for every
+-- lawful host its run, from every world and with any number of rounds left; for every host its hoisted names, but for granted ones.
+use Prim.Native.Nat.{ℕ, _≤_}
 use mathlib.Core.Path.{_≡_}
 use mathlib.Core.Bool.{Bool, true, false}
 use mathlib.Core.List.{List, []}
@@ -20,6 +20,23 @@ pub record Sound (a : Around) : Type 0 where
   pub apart : (l : ℕ) → among l (a .iteration-set) ≡ true → among l (a .label-set) ≡ false
   pub targets : (l : ℕ) → among l (a .iteration-set) ≡ true → among l (a .labels) ≡ true
   pub own : (l : ℕ) → among l (a .label-set) ≡ true → among l (a .labels) ≡ true
+
+-- a statement that keeps the rules becomes one that does; the literals 0 and 1 have to be there
+abbrev pub Fold-keeps-rules : Type 0
+Fold-keeps-rules = (m : Model) → 2 ≤ m .count → (dropped : List ℕ) (p : Parent) (s : Statement) (a : Around) → Keeps (m .count) a s → Keeps (m .count) a (fold m dropped p s .result)
+
+-- and so does a script
+abbrev pub Keeps-rules : Model → Statements → Statements → Type 0
+Keeps-rules m before after = Keeps-list (m .count) nowhere before → Keeps-list (m .count) nowhere after
+
+abbrev pub Step-keeps-rules : Type 0
+Step-keeps-rules = (m : Model) → 2 ≤ m .count → (dropped : List ℕ) (place : ℕ) (ss : Statements) → Keeps-rules m ss (step-body m dropped place ss .result)
+
+abbrev pub Pass-keeps-rules : Type 0
+Pass-keeps-rules = (m : Model) → 2 ≤ m .count → (dropped : List ℕ) (ss : Statements) → Keeps-rules m ss (pass-body m dropped ss .result)
+
+abbrev pub Settle-keeps-rules : Type 0
+Settle-keeps-rules = (m : Model) → 2 ≤ m .count → (dropped : List ℕ) (ss ts : Statements) (n : ℕ) → Settles m dropped ss ts n → Keeps-rules m ss ts
 
 -- a statement that keeps the rules is folded to one that does, and that runs as it did
 abbrev pub Fold-keeps-run : Type 0

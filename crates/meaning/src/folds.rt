@@ -1,8 +1,17 @@
 // What holds of every fold of a script.
+ghost use Rattle.meaning.specs.FoldLaws.{Fold-keeps-rules, Step-keeps-rules, Pass-keeps-rules, Settle-keeps-rules};
 ghost use Rattle.meaning.specs.FoldLaws.{Fold-keeps-run, Step-keeps-run, Pass-keeps-run, Settle-keeps-run};
 ghost use Rattle.meaning.specs.FoldLaws.{Fold-keeps-names, Step-keeps-names, Pass-keeps-names, Settle-keeps-names};
 ghost use Rattle.meaning.specs.ChangeLaws.{Fold-pays, Step-pays, Pass-pays, Settle-pays, Settle-ends, Settle-unique, Settled-quiet};
 ghost use Rattle.meaning.specs.StepLaws.{Places-counted, Past-places, Alternate-there};
+
+// Does nothing when run: its contract says that folding keeps the rules of a script, whatever labels are to be dropped.
+pub fn keep_rules()
+    ensures fold { λ _. ⌜ Fold-keeps-rules ⌝ }
+    ensures step { λ _. ⌜ Step-keeps-rules ⌝ }
+    ensures pass { λ _. ⌜ Pass-keeps-rules ⌝ }
+    ensures settle { λ _. ⌜ Settle-keeps-rules ⌝ }
+{}
 
 // Does nothing when run: its contract says that folding keeps the rules and the run, for every lawful host.
 pub fn keep_run()
