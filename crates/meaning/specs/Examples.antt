@@ -97,7 +97,7 @@ pub record Example-folds : Type 0 where
   -- if (0) var x = f; else g  →  if (0) var x; else g, and with x granted  →  g
   pub if-stub : fold-one (IfElse (e1 0) (Var (NameInit 80 (e1 4)) []) g) ≡ folded (IfElse (e1 0) (Var (Name 80) []) g) 1
   pub if-granted : fold-one (IfElse (e1 0) (Var (NameInit 100 (e1 4)) []) g) ≡ folded g 1
-  -- for (var i = f; 0; g) var y  →  var i = f, y, and its update is removed first
+  -- for (var i = f; 0; g) var y  →  var i = f, y; the update has effects and goes with the For
   pub for-var : fold-one (For (start-var (NameInit 80 (e1 4)) []) (Some (e1 0)) (Some (e1 5)) (Var (Name 81) [])) ≡ folded (Var (NameInit 80 (e1 4)) (Name 81 ∷ [])) 1
   -- for (let i = f; 0;) var y  →  { let i = f; var y }
   pub for-let : fold-one (For (start-let (NameInit 80 (e1 4)) []) (Some (e1 0)) None (Var (Name 81) [])) ≡ folded (Block (Let (NameInit 80 (e1 4)) [] (only (Var (Name 81) [])))) 1

@@ -1,5 +1,5 @@
 -- Folding a script. `fold` is the fold for a statement under its parent. `pass` folds every statement after those
--- inside it, `step` the one at a place, counted as words/specs/Places counts; `Settles` is passing until a pass
+-- inside it, `step` the one at a place, counted as scan/specs/Places counts; `Settles` is passing until a pass
 -- changes nothing. All take the labels to drop.
 use Prim.Native.Nat.{ℕ, zero, suc, _+_, _-_}
 use mathlib.Core.Path.{_≡_}
