@@ -1,5 +1,8 @@
 // Measures load on scripts of three shapes and three lengths. Without arguments it only loads them, and prints
 // what does not change from run to run; with `--time` it prints how long a load takes.
+
+#![tactic(auto)]
+
 mod shape;
 
 use calls::load::load;

@@ -1,4 +1,7 @@
 // Tests of load at the limits of its refusals.
+
+#![tactic(auto)]
+
 #[cfg(test)]
 mod lengths;
 #[cfg(test)]

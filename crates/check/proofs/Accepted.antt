@@ -1,5 +1,5 @@
 -- An accepted script is the words of a tree that keeps the rules.
-use Rattle.std.proofs.Common.{◌≡◌, ℕ, suc, ◌+◌, ◌-◌, ◌<◌, ◌≤◌, Bool, true, false, cond, eqb, ltb, leb, ◌⊎◌, List, [], ◌∷◌, ◌++◌, length, Some, None, Ok, Err, sym, refl, ap, ◌∙◌, subst, ap₂, inl, inr, append_assoc, append_nil, arith, ltb-true, eqb-true, le-leb, leb-true}
+use Rattle.std.proofs.Common.{◌≡◌, ℕ, suc, ◌+◌, ◌-◌, ◌<◌, ◌≤◌, Bool, true, false, cond, eqb, ltb, leb, ◌⊎◌, List, [], ◌∷◌, ◌++◌, length, Some, None, Ok, Err, sym, refl, ap, ◌∙◌, subst, ap₂, inl, inr, append_assoc, append-nil, arith, ltb-true, eqb-true, le-leb, leb-true}
 use borrow.Author.Tests.{clash, eqb-false}
 use Rattle.std.proofs.lemmas.Bool.{cases_eq, cases_lt}
 use Rattle.words.specs.declared.word.Kind.{Kind}
@@ -301,4 +301,4 @@ pub accepted_kept : (c : ℕ) (ws : List Word) → check_script c ws ≡ Ok tt �
 accepted_kept c ws h =
     let r = accepted c ws (start ∷ []) 0 (omega arith, tt) h in
     let b = only r.1 in
-    (b.item, b.holds, b.words ∙ ap (λ v. words_of what.Body b.item ++ v) r.2 ∙ append_nil _)
+    (b.item, b.holds, b.words ∙ ap (λ v. words_of what.Body b.item ++ v) r.2 ∙ append-nil _)

@@ -1,5 +1,5 @@
 -- Trees that keep the rules are accepted: a check goes past the words of each part.
-use Rattle.std.proofs.Common.{◌≡◌, ℕ, suc, ◌+◌, ◌-◌, ◌<◌, ◌≤◌, Bool, true, false, cond, not, eqb, ltb, leb, List, [], ◌∷◌, ◌++◌, map, length, Some, None, Ok, Err, Option, sym, refl, ap, ◌∙◌, subst, ap₂, append_assoc, append_nil, arith, length_append, lt-ltb, ne_eqb, le-leb}
+use Rattle.std.proofs.Common.{◌≡◌, ℕ, suc, ◌+◌, ◌-◌, ◌<◌, ◌≤◌, Bool, true, false, cond, not, eqb, ltb, leb, List, [], ◌∷◌, ◌++◌, map, length, Some, None, Ok, Err, Option, sym, refl, ap, ◌∙◌, subst, ap₂, append_assoc, append-nil, arith, length-append, lt-ltb, ne_eqb, le-leb}
 use Rattle.words.specs.declared.word.Kind.{Kind}
 use Rattle.words.specs.declared.word.Kind.TheVariants as kind
 use Rattle.words.specs.declared.word.Word.{Word}
@@ -44,7 +44,7 @@ eats_join {c} {m} {n} {x} {y} {z} {a} {xs} {ys} p q = record {
   past = λ k ds rest at.
       ap₂ (λ j ws. check c (need (due x j a) ds) ws at) (let g : m + n + k ≡ m + (n + k) = omega arith in g) (append_assoc xs ys rest)
       ∙ p.past (n + k) ds (ys ++ rest) at ∙ q.past k ds rest (at + length xs)
-      ∙ ap (check c (need (due z k a) ds) rest) (let l = length_append xs ys in let g : at + length xs + length ys ≡ at + length (xs ++ ys) = omega arith in g);
+      ∙ ap (check c (need (due z k a) ds) rest) (let l = length-append xs ys in let g : at + length xs + length ys ≡ at + length (xs ++ ys) = omega arith in g);
 }
 
 pub eats_as : {c m n : ℕ} {x y : What} {a : Around} {ws : List Word} → Eats c x y a m ws → m ≡ n → Eats c x y a n ws
@@ -96,7 +96,7 @@ eats_word {c} {x} {a} {ws} w g p = record {
       let r3 = need (part_due (parts w).fourth (within w a)) r4 in
       let r2 = need (part_due (parts w).third (within w a)) r3 in
       let r1 = need (part_due (parts w).second (within w a)) r2 in
-      let l : length (A ++ (B ++ (C ++ D))) ≡ length A + (length B + (length C + length D)) = simp length_append in
+      let l : length (A ++ (B ++ (C ++ D))) ≡ length A + (length B + (length C + length D)) = simp length-append in
       let n = ap length p.words in
       ap (λ b. check c (cond b ds (due x (1 + k) a ∷ ds)) (w ∷ ws ++ rest) at) (ne_eqb (1 + k) 0 (λ e. omega arith))
       ∙ check_next c (due x (1 + k) a) ds w (ws ++ rest) at (judge_good g (1 + k) at)
@@ -115,7 +115,7 @@ pub parts_0 : {c : ℕ} {a : Around} → Parted c a (format.one no_part) []
 parts_0 = record { one = []; two = []; three = []; four = []; words = refl; first = done_none; second = done_none; third = done_none; fourth = done_none }
 
 pub parts_1 : {c : ℕ} {a : Around} (p : Part) {xs : List Word} → Done c p.what (surround p.surroundings a) p.times xs → Parted c a (format.one p) xs
-parts_1 p {xs} d = record { one = xs; two = []; three = []; four = []; words = sym (append_nil xs); first = d; second = done_none; third = done_none; fourth = done_none }
+parts_1 p {xs} d = record { one = xs; two = []; three = []; four = []; words = sym (append-nil xs); first = d; second = done_none; third = done_none; fourth = done_none }
 
 pub parts_2 : {c : ℕ} {a : Around} (p q : Part) {xs ys : List Word} →
     Done c p.what (surround p.surroundings a) p.times xs → Done c q.what (surround q.surroundings a) q.times ys → Parted c a (format.two p q) (xs ++ ys)
@@ -124,7 +124,7 @@ parts_2 p q {xs} {ys} d e = record {
   two = ys;
   three = [];
   four = [];
-  words = ap (λ v. xs ++ v) (sym (append_nil ys));
+  words = ap (λ v. xs ++ v) (sym (append-nil ys));
   first = d;
   second = e;
   third = done_none;
@@ -139,7 +139,7 @@ parts_3 p q r {xs} {ys} {zs} d e f = record {
   two = ys;
   three = zs;
   four = [];
-  words = ap (λ v. xs ++ (ys ++ v)) (sym (append_nil zs));
+  words = ap (λ v. xs ++ (ys ++ v)) (sym (append-nil zs));
   first = d;
   second = e;
   third = f;

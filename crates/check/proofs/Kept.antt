@@ -1,5 +1,5 @@
 -- A script that keeps the rules is accepted, constructor by constructor.
-use Rattle.std.proofs.Common.{◌≡◌, ℕ, suc, ◌+◌, ◌<◌, ◌≤◌, Bool, true, false, cond, not, eqb, ltb, leb, List, [], ◌∷◌, ◌++◌, map, length, Some, None, Ok, Err, Option, sym, refl, ap, ◌∙◌, subst, ap₂, append_assoc, append_nil, arith, lt-ltb, le-leb}
+use Rattle.std.proofs.Common.{◌≡◌, ℕ, suc, ◌+◌, ◌<◌, ◌≤◌, Bool, true, false, cond, not, eqb, ltb, leb, List, [], ◌∷◌, ◌++◌, map, length, Some, None, Ok, Err, Option, sym, refl, ap, ◌∙◌, subst, ap₂, append_assoc, append-nil, arith, lt-ltb, le-leb}
 use Rattle.words.specs.declared.word.Kind.{Kind}
 use Rattle.words.specs.declared.word.Kind.TheVariants as kind
 use Rattle.words.specs.declared.word.Word.{Word}
@@ -84,7 +84,7 @@ declaration_words (start_let d ds) = encode_let d ds
 
 start_split : (i : Start) → encode_start i ≡ start_words i ++ declaration_words i
 start_split no_start = refl
-start_split (start_expression e) = sym (append_nil (encode_expression e))
+start_split (start_expression e) = sym (append-nil (encode_expression e))
 start_split (start_var d ds) = refl
 start_split (start_let d ds) = refl
 
@@ -185,7 +185,7 @@ mutual
   eats b (Throw e) h = eats_word (word kind.Throw 0) (good b kind.Throw 0 refl refl refl h.0 refl refl) (parts_1 (part what.Expression 1 Same) (done (eats_expression e h.1)))
   eats {c} {a} b (Var d ds) h = eats_var (place b) (stands_both kind.Var refl refl b) (shallow (place b) a h.0) d ds h.1
   eats {c} {a} b (If e s) h =
-      subst (λ ws. Eats c (place b) (place b) a 1 (word kind.If 0 ∷ encode_expression e ++ ws)) (append_nil (encode s))
+      subst (λ ws. Eats c (place b) (place b) a 1 (word kind.If 0 ∷ encode_expression e ++ ws)) (append-nil (encode s))
       (eats_word (word kind.If 0) (good b kind.If 0 refl refl refl h.0 refl refl)
       (parts_3 (part what.Expression 1 Same) (part what.SingleStatement 1 Nested) (part what.SingleStatement 0 Nested) (done (eats_expression e h.1)) (done (eats false s h.2)) (done eats_none)))
   eats b (IfElse e s t) h =
@@ -207,7 +207,7 @@ mutual
   eats b (Return None) h = eats_word (word kind.Return 0) (good b kind.Return 0 refl refl refl h.0 refl refl) (parts_1 (part what.Expression 0 Same) (done eats_none))
   eats b (Return (Some e)) h = eats_word (word kind.Return 1) (good b kind.Return 1 refl refl refl h.0 refl refl) (parts_1 (part what.Expression 1 Same) (done (eats_expression e h.1)))
   eats {c} {a} b (TryCatch ss x cs) h =
-      subst (λ ws. Eats c (place b) (place b) a 1 (word kind.Try 1 ∷ encode_body ss ++ ws)) (append_nil (encode_catch x cs))
+      subst (λ ws. Eats c (place b) (place b) a 1 (word kind.Try 1 ∷ encode_body ss ++ ws)) (append-nil (encode_catch x cs))
       (eats_word (word kind.Try 1) (good b kind.Try 1 refl refl refl h.0 refl refl)
       (parts_3 (part what.Body 1 Nested) (part what.Catch 1 Nested) (part what.Body 0 Nested) (done (body_of (inside a) ss (done (eats_list ss h.1)))) (done (catch_of (inside a) x cs (done (eats_list cs h.2)))) (done eats_none)))
   eats {c} {a} b (TryFinally ss fs) h =
@@ -240,4 +240,4 @@ pub kept_accepted : (c : ℕ) (ws : List Word) → Script c ws → check_script 
 unfolding check
 kept_accepted c ws (ss, h, e) =
     let b : Eats c what.Body what.Body nowhere 1 (encode_body ss) = body_of nowhere ss (done (eats_list ss h)) in
-    ap (check_script c) (e ∙ sym (append_nil (encode_body ss))) ∙ (done b).all [] [] 0
+    ap (check_script c) (e ∙ sym (append-nil (encode_body ss))) ∙ (done b).all [] [] 0

@@ -1,5 +1,5 @@
 -- The laws of the checker's verdicts, put together.
-use Rattle.std.proofs.Common.{◌≡◌, ℕ, ◌+◌, List, [], ◌∷◌, ◌++◌, map, length, Err, sym, ap, ◌∙◌, append_nil, arith}
+use Rattle.std.proofs.Common.{◌≡◌, ℕ, ◌+◌, List, [], ◌∷◌, ◌++◌, map, length, Err, sym, ap, ◌∙◌, append-nil, arith}
 use Rattle.std.proofs.lemmas.List.{length-map}
 use Rattle.words.specs.Words.{read_word}
 use Rattle.words.specs.Tree.{Statements}

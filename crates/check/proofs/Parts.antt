@@ -1,5 +1,5 @@
 -- The parts of a word, read off the words after it: one of a kind, none, a list, declarators, a test.
-use Rattle.std.proofs.Common.{◌≡◌, ℕ, zero, suc, ◌+◌, ◌*◌, ◌<◌, ◌≤◌, List, [], ◌∷◌, ◌++◌, map, length, Some, None, Option, sym, refl, ap, ◌∙◌, subst, ap₂, append_assoc, append_nil, arith}
+use Rattle.std.proofs.Common.{◌≡◌, ℕ, zero, suc, ◌+◌, ◌*◌, ◌<◌, ◌≤◌, List, [], ◌∷◌, ◌++◌, map, length, Some, None, Option, sym, refl, ap, ◌∙◌, subst, ap₂, append_assoc, append-nil, arith}
 use Rattle.words.specs.declared.word.Kind.{Kind}
 use Rattle.words.specs.declared.word.Kind.TheVariants as kind
 use Rattle.words.specs.declared.word.Word.{Word}
@@ -27,7 +27,7 @@ only {c} {x} {a} {u} {v} r = go r.items r.many r.words r.holds
   where
     go : (is : List (Item x)) → length is ≡ 1 → u ≡ joined (words_of x) is ++ v → All (Holds x c a) is → One c x a u v
     go [] n e h = absurd (omega arith)
-    go (i ∷ []) n e h = record { item = i; words = e ∙ ap (λ ws. ws ++ v) (append_nil (words_of x i)); holds = h.0 }
+    go (i ∷ []) n e h = record { item = i; words = e ∙ ap (λ ws. ws ++ v) (append-nil (words_of x i)); holds = h.0 }
     go (i ∷ j ∷ is) n e h = absurd (omega arith)
 
 -- the statements of a list, and the cases of a Switch
@@ -121,7 +121,7 @@ optional {c} {n} {a} {u} {v} l r = go r.items r.many r.words r.holds
   where
     go : (es : List Expression) → length es ≡ n → u ≡ joined encode_expression es ++ v → All (Known c) es → OptionalRead c n u v
     go [] m e h = record { test = None; many = sym m; words = e; known = tt }
-    go (x ∷ []) m e h = record { test = Some x; many = sym m; words = e ∙ ap (λ ws. ws ++ v) (append_nil (encode_expression x)); known = h.0 }
+    go (x ∷ []) m e h = record { test = Some x; many = sym m; words = e ∙ ap (λ ws. ws ++ v) (append-nil (encode_expression x)); known = h.0 }
     go (x ∷ y ∷ es) m e h = absurd (omega arith)
 
 -- a test and an update, either of which may be absent
@@ -138,13 +138,13 @@ tail {c} {s} {u} {v} a b k l r = go a k r.items r.many r.words r.holds
   where
     go : (a : ℕ) → a ≤ 1 → (es : List Expression) → length es ≡ a + b → u ≡ joined encode_expression es ++ v → All (Known c) es → TailRead c a b u v
     go a k [] m e h = record { test = None; update = None; many = omega arith; words = e; test_known = tt; update_known = tt }
-    go zero k (x ∷ []) m e h = record { test = None; update = Some x; many = omega arith; words = e ∙ ap (λ ws. ws ++ v) (append_nil (encode_expression x)); test_known = tt; update_known = h.0 }
-    go (suc a) k (x ∷ []) m e h = record { test = Some x; update = None; many = omega arith; words = e ∙ ap (λ ws. ws ++ v) (append_nil (encode_expression x)); test_known = h.0; update_known = tt }
+    go zero k (x ∷ []) m e h = record { test = None; update = Some x; many = omega arith; words = e ∙ ap (λ ws. ws ++ v) (append-nil (encode_expression x)); test_known = tt; update_known = h.0 }
+    go (suc a) k (x ∷ []) m e h = record { test = Some x; update = None; many = omega arith; words = e ∙ ap (λ ws. ws ++ v) (append-nil (encode_expression x)); test_known = h.0; update_known = tt }
     go a k (x ∷ y ∷ []) m e h = record {
       test = Some x;
       update = Some y;
       many = omega arith;
-      words = e ∙ ap (λ ws. (encode_expression x ++ ws) ++ v) (append_nil (encode_expression y)) ∙ append_assoc (encode_expression x) (encode_expression y) v;
+      words = e ∙ ap (λ ws. (encode_expression x ++ ws) ++ v) (append-nil (encode_expression y)) ∙ append_assoc (encode_expression x) (encode_expression y) v;
       test_known = h.0;
       update_known = h.1.0;
     }
@@ -163,10 +163,10 @@ a_start {c} {s} {t} {u} {v} {w} a b l p q = go p.items p.many p.words p.holds q.
     go : (es : List Expression) → length es ≡ a → u ≡ joined encode_expression es ++ v → All (Known c) es →
         (ds : List Declaration) → length ds ≡ b → v ≡ joined encode_declaration ds ++ w → All (KnownDeclaration c) ds → StartRead c a b u w
     go [] m e h [] n f k = record { begin = no_start; many = omega arith; words = e ∙ f; known = tt }
-    go [] m e h (by_var d ds ∷ []) n f k = record { begin = start_var d ds; many = omega arith; words = e ∙ f ∙ ap (λ ws. ws ++ w) (append_nil (encode_declaration (by_var d ds))); known = k.0 }
-    go [] m e h (by_let d ds ∷ []) n f k = record { begin = start_let d ds; many = omega arith; words = e ∙ f ∙ ap (λ ws. ws ++ w) (append_nil (encode_declaration (by_let d ds))); known = k.0 }
+    go [] m e h (by_var d ds ∷ []) n f k = record { begin = start_var d ds; many = omega arith; words = e ∙ f ∙ ap (λ ws. ws ++ w) (append-nil (encode_declaration (by_var d ds))); known = k.0 }
+    go [] m e h (by_let d ds ∷ []) n f k = record { begin = start_let d ds; many = omega arith; words = e ∙ f ∙ ap (λ ws. ws ++ w) (append-nil (encode_declaration (by_let d ds))); known = k.0 }
     go [] m e h (d ∷ d' ∷ ds) n f k = absurd (omega arith)
-    go (x ∷ []) m e h [] n f k = record { begin = start_expression x; many = omega arith; words = e ∙ ap₂ (λ xs ys. xs ++ ys) (append_nil (encode_expression x)) f; known = h.0 }
+    go (x ∷ []) m e h [] n f k = record { begin = start_expression x; many = omega arith; words = e ∙ ap₂ (λ xs ys. xs ++ ys) (append-nil (encode_expression x)) f; known = h.0 }
     go (x ∷ []) m e h (d ∷ ds) n f k = absurd (omega arith)
     go (x ∷ y ∷ es) m e h ds n f k = absurd (omega arith)
 

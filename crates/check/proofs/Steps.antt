@@ -1,5 +1,5 @@
 -- One word of a check, on frames and on what is due.
-use Rattle.std.proofs.Common.{◌≡◌, ℕ, ◌+◌, ◌-◌, ◌*◌, ◌<◌, ◌≤◌, Bool, true, false, cond, eqb, ltb, leb, List, [], ◌∷◌, ◌++◌, map, length, take, drop, Ok, Err, sym, refl, ap, ◌∙◌, subst, ap₂, subst₂, append_nil, arith, length_append, length-drop, take-take, eqb-true, leb-true}
+use Rattle.std.proofs.Common.{◌≡◌, ℕ, ◌+◌, ◌-◌, ◌*◌, ◌<◌, ◌≤◌, Bool, true, false, cond, eqb, ltb, leb, List, [], ◌∷◌, ◌++◌, map, length, take, drop, Ok, Err, sym, refl, ap, ◌∙◌, subst, ap₂, subst₂, append-nil, arith, length-append, length-drop, take-take, eqb-true, leb-true}
 use borrow.Author.Tests.{eqb-false}
 use Rattle.std.proofs.lemmas.List.{take_all, take_at, length-take-le, drop_all, drop-append-le}
 use Rattle.words.specs.declared.word.Kind.{Kind}
@@ -69,7 +69,7 @@ around_is true c n s os ls k =
     let e = k.labels in
     let f = k.iterations in
     let g = k.set in
-    let l : length (os ++ n ∷ []) ≤ s.labels + 1 = simp length_append (omega arith) in
+    let l : length (os ++ n ∷ []) ≤ s.labels + 1 = simp length-append (omega arith) in
     let p : take (s.labels + 1) (os ++ n ∷ []) ≡ os ++ n ∷ [] = take_all (s.labels + 1) _ l in
     let m : s.labels + 1 - (s.set + 1) ≡ s.labels - s.set = omega arith in
     let q : drop (s.labels + 1 - (s.set + 1)) (take (s.labels + 1) (os ++ n ∷ [])) ≡ set_of s os ++ n ∷ [] =
@@ -82,7 +82,7 @@ around_is false true n s os ls k =
     let g = k.set in
     let p : take s.labels os ≡ os = take_all s.labels os (omega arith) in
     let q = none_set s os e in
-    let l : length (ls ++ set_of s os) ≤ s.iterations + s.set = simp (length_append, length-drop) (omega arith) in
+    let l : length (ls ++ set_of s os) ≤ s.iterations + s.set = simp (length-append, length-drop) (omega arith) in
     let r : take (s.iterations + s.set) (ls ++ set_of s os) ≡ ls ++ set_of s os = take_all (s.iterations + s.set) _ l in
     λ i. record { depth = s.depth; in_loop = s.looping; in_breakable = s.breakable; labels = p i; label_set = q i; iteration_set = r i }
 around_is false false n s os ls k =
@@ -200,7 +200,7 @@ height_after x k h = go (eqb (code k) (code kind.Default)) refl
     go false e = omega arith
 
 labels_reach : (b c : Bool) (n : ℕ) (s : Spot) (os : List ℕ) → length os ≡ s.labels → (spot_by b c s).labels ≡ length (opened_by b n os)
-labels_reach true c n s os e = ap (λ m. m + 1) (sym e) ∙ sym (length_append os (n ∷ []))
+labels_reach true c n s os e = ap (λ m. m + 1) (sym e) ∙ sym (length-append os (n ∷ []))
 labels_reach false true n s os e = sym e
 labels_reach false false n s os e = sym e
 
@@ -211,7 +211,7 @@ iterations_reach false true s os ls k =
     let g = k.iterations in
     let h = k.set in
     let l : s.labels - (s.labels - s.set) ≡ s.set = omega arith in
-    sym (length_append ls (set_of s os) ∙ ap₂ (λ x y. x + y) g (length-drop (s.labels - s.set) os ∙ ap (λ x. x - (s.labels - s.set)) e ∙ l))
+    sym (length-append ls (set_of s os) ∙ ap₂ (λ x y. x + y) g (length-drop (s.labels - s.set) os ∙ ap (λ x. x - (s.labels - s.set)) e ∙ l))
 iterations_reach false false s os ls k = sym k.iterations
 
 -- the frames after an accepted word

@@ -1,4 +1,7 @@
 // The format as one table: which kinds may stand where, which numbers they may have, and which parts follow.
+
+#![tactic(auto)]
+
 ghost use Rattle.std.specs.Prelude.{◌≡◌, ◌+◌, ◌<◌, ◌≤◌};
 ghost use Rattle.words.specs.Words.{has};
 ghost use Rattle.grammar.specs.Format.{admits, after, has_depth_lem, allows};

@@ -1,4 +1,7 @@
 // A host: what the expressions of a script mean, and the questions that it answers about them.
+
+#![tactic(auto)]
+
 ghost use Rattle.std.specs.Prelude.{◌≡◌};
 ghost use Rattle.std.specs.Option.{option_map};
 ghost use Rattle.host.specs.Model.{Model, Lawful, Value as Meaning};

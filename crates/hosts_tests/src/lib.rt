@@ -1,4 +1,7 @@
 // Tests of the two hosts, at their limits and row by row.
+
+#![tactic(auto)]
+
 ghost use Rattle.std.specs.Prelude.{◌≡◌, pos};
 ghost use Rattle.sheet.specs.SheetModel.{largest_answer_lem};
 ghost use Rattle.hosts_tests.specs.Examples.{Examples};

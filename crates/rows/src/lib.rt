@@ -1,4 +1,7 @@
 // The row host: each expression is a row of a lent list, and a value is a number.
+
+#![tactic(auto)]
+
 ghost use Rattle.std.specs.Prelude.{◌≡◌, true, false, [], ◌∷◌, is_some, Some, None};
 ghost use Rattle.hosts.specs.RowWord.{answer_of, first_bad, literal_0, literal_1};
 ghost use Rattle.rows.specs.Rows.{row_of, row_at, rows_refused, row_allowed, rows_model, number_value, known_number_lem};

@@ -1,5 +1,5 @@
 -- The places of a tree are those that a scan over its words finds.
-use Rattle.std.proofs.Common.{◌≡◌, ℕ, zero, suc, ◌+◌, ◌-◌, ◌<◌, Bool, true, false, cond, eqb, List, [], ◌∷◌, ◌++◌, map, length, get_or, drop, Some, None, Option, sym, refl, ap, ◌∙◌, ap₂, append_assoc, append_nil, arith, length_append}
+use Rattle.std.proofs.Common.{◌≡◌, ℕ, zero, suc, ◌+◌, ◌-◌, ◌<◌, Bool, true, false, cond, eqb, List, [], ◌∷◌, ◌++◌, map, length, get_or, drop, Some, None, Option, sym, refl, ap, ◌∙◌, ap₂, append_assoc, append-nil, arith, length-append}
 use Rattle.words.specs.declared.word.Kind.TheVariants as kind
 use Rattle.words.specs.declared.word.Word.{Word}
 use Rattle.words.specs.Words.{word, read_word}
@@ -26,7 +26,7 @@ placed_join {xs} {ys} {ps} {qs} p q = record {
   placed = λ i rest.
       ap (places_from i false) (append_assoc xs ys rest) ∙ p.placed i (ys ++ rest)
       ∙ ap (λ z. ps i ++ z) (q.placed (i + length xs) rest)
-      ∙ ap (λ z. ps i ++ (qs (i + length xs) ++ z)) (from_at rest (let e : i + length xs + length ys ≡ i + length (xs ++ ys) = simp length_append (omega arith) in e))
+      ∙ ap (λ z. ps i ++ (qs (i + length xs) ++ z)) (from_at rest (let e : i + length xs + length ys ≡ i + length (xs ++ ys) = simp length-append (omega arith) in e))
       ∙ sym (append_assoc (ps i) (qs (i + length xs)) (places_from (i + length (xs ++ ys)) false rest));
 }
 
@@ -34,7 +34,7 @@ placed_join {xs} {ys} {ps} {qs} p q = record {
 placed_before : {xs ys : List Word} {ps : ℕ → List ℕ} → Placed xs ps → Placed ys (λ i. []) → Placed (xs ++ ys) ps
 placed_before {xs} {ys} {ps} p q = record {
   placed = λ i rest.
-      (placed_join p q).placed i rest ∙ ap (λ z. z ++ places_from (i + length (xs ++ ys)) false rest) (append_nil (ps i));
+      (placed_join p q).placed i rest ∙ ap (λ z. z ++ places_from (i + length (xs ++ ys)) false rest) (append-nil (ps i));
 }
 
 -- a word that is no For, a statement or not
@@ -91,7 +91,7 @@ placed_for s t u {ws} {ps} p = record {
       ap (λ b. i ∷ places_from (suc i) b ((encode_start s ++ ws) ++ rest)) (ap (λ n. eqb n 1) (for_has s t u).has_declaration)
       ∙ ap (λ z. i ∷ places_from (suc i) (is_declaration s) z) (append_assoc (encode_start s) ws rest)
       ∙ ap (λ z. i ∷ z) (start_placed s (suc i) (ws ++ rest) ∙ p.placed at rest)
-      ∙ ap (λ z. i ∷ ps at ++ z) (from_at rest (let e : at + length ws ≡ i + suc (length (encode_start s ++ ws)) = simp length_append (omega arith) in e));
+      ∙ ap (λ z. i ∷ ps at ++ z) (from_at rest (let e : at + length ws ≡ i + suc (length (encode_start s ++ ws)) = simp length-append (omega arith) in e));
 }
 
 placed_catch : (x : Option ℕ) (n : ℕ) → Placed (catch_head x n) (λ i. [])
@@ -141,7 +141,7 @@ mutual
 -- a script
 pub places_of_body : (ss : Statements) → places_words (encode_body ss) ≡ places_body ss
 places_of_body ss =
-    ap (places_from 1 false) (sym (append_nil (encode_list ss))) ∙ (placed_list ss).placed 1 [] ∙ append_nil (places_list 1 ss)
+    ap (places_from 1 false) (sym (append-nil (encode_list ss))) ∙ (placed_list ss).placed 1 [] ∙ append-nil (places_list 1 ss)
 
 -- A loop over the words, a word on: b says whether it begins a statement, e whether it is a For that declares.
 pub places_step : (xs : List ℕ) (i : ℕ) (d b e : Bool) (w : Word) → i < length xs → w ≡ read_word (get_or xs i 0) → b ≡ begins_statement_lem d w → e ≡ declares w →

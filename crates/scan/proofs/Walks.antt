@@ -1,5 +1,5 @@
 -- Where a scan past a part ends.
-use Rattle.std.proofs.Common.{◌≡◌, ℕ, zero, suc, ◌+◌, ◌-◌, ◌<◌, ◌≤◌, min, max, List, [], ◌∷◌, ◌++◌, map, length, get_or, drop, Option, sym, refl, ap, ◌∙◌, ap₂, ⊎_elim, arith, length_append, length-drop}
+use Rattle.std.proofs.Common.{◌≡◌, ℕ, zero, suc, ◌+◌, ◌-◌, ◌<◌, ◌≤◌, min, max, List, [], ◌∷◌, ◌++◌, map, length, get_or, drop, Option, sym, refl, ap, ◌∙◌, ap₂, ⊎_elim, arith, length-append, length-drop}
 use Rattle.std.proofs.lemmas.List.{at_drop_more, at_drop_all, get_or-map, length-map}
 use Rattle.std.proofs.lemmas.Bool.{cases_lt}
 use Rattle.words.specs.declared.word.Word.{Word}
@@ -44,7 +44,7 @@ ends_at : {Tree : Type 0} (words_of : Tree → List Word) → ((t : Tree) → Sk
 ends_at words_of p xs at r from within e t rest d =
     let tail : drop r (map read_word xs) ≡ rest = e ∙ ap (skip 1) d ∙ (p t).past 0 rest in
     let a = simp (length-drop, length-map) at (ap length tail) in
-    let b = simp (length-drop, length-map, length_append) at (ap length d) in
+    let b = simp (length-drop, length-map, length-append) at (ap length d) in
     let n = skips_some (words_of t) (p t) in
     omega arith
 

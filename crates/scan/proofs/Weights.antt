@@ -1,5 +1,5 @@
 -- The weight of a tree is the weight of its words.
-use Rattle.std.proofs.Common.{◌≡◌, ℕ, suc, ◌+◌, ◌≤◌, Bool, true, false, cond, List, [], ◌∷◌, ◌++◌, map, length, Some, None, Option, sym, refl, ap, ◌∙◌, ap₂, append_assoc, append_nil, arith}
+use Rattle.std.proofs.Common.{◌≡◌, ℕ, suc, ◌+◌, ◌≤◌, Bool, true, false, cond, List, [], ◌∷◌, ◌++◌, map, length, Some, None, Option, sym, refl, ap, ◌∙◌, ap₂, append_assoc, append-nil, arith}
 use Rattle.words.specs.declared.word.Kind.TheVariants as kind
 use Rattle.words.specs.declared.word.Word.{Word}
 use Rattle.words.specs.Words.{word}
@@ -118,7 +118,7 @@ mutual
   weighs_cases (case t ss cs) = weighs_join (weighs_join (weighs_case t (count ss)) (weighs_list ss)) (weighs_cases cs)
 
 weight_whole : {ws : List Word} {n : ℕ} → Weighs ws n → weight_words ws ≡ n
-weight_whole {ws} p = let e = ap weight_words (append_nil ws) in let a = p.weighs [] in omega arith
+weight_whole {ws} p = let e = ap weight_words (append-nil ws) in let a = p.weighs [] in omega arith
 
 -- a script, and a statement alone
 pub weight_of_body : (ss : Statements) → weight_words (encode_body ss) ≡ weight_body ss

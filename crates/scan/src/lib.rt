@@ -1,4 +1,7 @@
 // Scans over the words of a script: where a part ends, what the script weighs, where its statements begin.
+
+#![tactic(auto)]
+
 ghost use Rattle.std.specs.Prelude.{◌≡◌, ◌+◌, ◌<◌, ◌≤◌, max, map, length, drop, slice_index};
 ghost use Rattle.words.specs.Words.{read_word, max_words};
 ghost use Rattle.grammar.specs.Format.{skip};

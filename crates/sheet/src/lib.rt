@@ -1,4 +1,7 @@
 // The sheet host: each expression is a row that looks at entries of a sheet and at earlier rows.
+
+#![tactic(auto)]
+
 ghost use Rattle.std.specs.Prelude.{◌≡◌, true, false, [], ◌∷◌, pos, is_some, None};
 ghost use Rattle.std.specs.Option.{option_map};
 ghost use Rattle.values.specs.declared.sheet_value.SheetValue.TheVariants.{Number};

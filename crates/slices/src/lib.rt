@@ -1,4 +1,7 @@
 // Lent lists of numbers: granted names, open labels.
+
+#![tactic(auto)]
+
 ghost use Rattle.std.specs.Prelude.{◌≡◌, is_some};
 ghost use Rattle.slices.specs.Among.{among};
 

@@ -1,4 +1,7 @@
 // Woolscree: reads jobs, makes their hosts, loads their scripts and prints what it finds.
+
+#![tactic(auto)]
+
 mod job;
 mod line;
 mod pretty;

@@ -2,7 +2,7 @@
 use Rattle.std.proofs.Common.{◌≡◌, ℕ, zero, suc, ◌+◌, ◌*◌, ◌/◌, ◌%◌, ◌<◌, ◌≤◌, true, List, [], ◌∷◌, get_or, Some, refl, ap, ◌∙◌, ap₂, arith, ltb-true, lt-ltb}
 use Rattle.words.specs.declared.word.Kind.{Kind}
 use Rattle.words.specs.declared.word.Kind.TheVariants.{Unlisted, Empty, Block, Expr, Var, Let, If, For, While, Do, Switch, Label, Break, BreakTo, Continue, ContinueTo, Return, Throw, Try, Body, Catch, CatchName, Case, Default, Expression, Sequence, Name, NameInit}
-use Rattle.std.proofs.lemmas.Bool.{cond_true}
+use Rattle.std.proofs.lemmas.Bool.{cond-true}
 use Rattle.words.specs.declared.word.Word.{Word}
 use Rattle.words.specs.Words.{number_limit, kinds, kind_of, code, is_listed, word, read_word, write_word}
 
@@ -90,7 +90,7 @@ written_back w h =
     let e = code_kind_of (w / number_limit) p in
     let small : w % number_limit < number_limit = omega arith in
     let same : k * number_limit + w % number_limit ≡ w = omega arith in
-    cond_true _ _ _ h ∙ cond_true _ _ _ (lt-ltb (w % number_limit) number_limit small) ∙ ap Some same
+    cond-true _ _ _ h ∙ cond-true _ _ _ (lt-ltb (w % number_limit) number_limit small) ∙ ap Some same
 
 -- a kind and a number put together and taken apart
 pub reads_back : (w : Word) → w.number < number_limit → read_word (code w.kind * number_limit + w.number) ≡ w

@@ -1,9 +1,9 @@
 // Script words: the top 5 bits are a kind, the low 27 a number.
-ghost use Rattle.std.specs.Prelude.{◌≡◌, ℕ, true, Some, Decides};
+ghost use Rattle.std.specs.Prelude.{◌≡◌, ◌==◌, ℕ, true, Some, Decides};
 ghost use Rattle.words.specs.Words.{kind_of, code as code_of_lem, from_to, is_listed, read_word, write_word};
 ghost use Rattle.std.specs.Cmp.Rules.{comparing};
 ghost use Rattle.std.proofs.Common.{rules};
-ghost use Rattle.std.specs.Cmp as Keys;
+ghost use Rattle.std.specs.Ordering.{on};
 
 // What a word is. Unlisted stands for the kinds 0 and 28 to 31, which no script has.
 #[derive(Clone, Copy, Debug)]
@@ -112,13 +112,16 @@ impl Kind {
     }
 }
 
-// Written out, since a derived equality of so many variants promises nothing.
+// Written out, so that it says what it decides.
 impl PartialEq for Kind {
-    ghost equals = { λ x y r. Decides r (x ≡ y) };
+    ghost eq = { on code_of_lem ◌==◌ };
 
-    ghost laws = { Keys.partial_equiv_from_equiv (Prim.search (comparing, rules)) };
+    ghost laws = { Prim.search (comparing, rules) };
 
-    fn eq(&self, other: &Kind) -> bool {
+    fn eq(&self, other: &Kind) -> bool
+        ensures value { result ≡ on code_of_lem ◌==◌ self.now other.now }
+        ensures decides { Decides result (self.now ≡ other.now) }
+    {
         self.code() == other.code()
     }
 }

@@ -14,10 +14,10 @@ loop-due-preserved c =
     let w = read_word (get_or xs i 0) in
     let left = drop (i + 1) ws in
     let small : length left ≤ 2 ^ 64 - 1 = simp (length-drop, length-map) (omega arith) in
-    let counted : c.part-count.result ≡ part_count w = c.part-count.ensures ∙ ap part_count c.read.ensures.value in (
+    let counted : c.part_count.result ≡ part_count w = c.part_count.ensures ∙ ap part_count c.read.ensures.value in (
       omega arith,
       omega arith,
-      skip_capped (2 ^ 64 - 1) (c.loop-due.due - 1 + part_count w) c.saturating-add-due.result left small (omega (arith, c.saturating-add-due.ensures))
+      skip_capped (2 ^ 64 - 1) (c.loop-due.due - 1 + part_count w) c.saturating_add-due.result left small (omega (arith, c.saturating_add-due.ensures))
           ∙ sym (skip_more c.loop-due.due w left c.loop-due-test.true)
           ∙ sym (words_more (skip c.loop-due.due) xs i c.if-end-words.true)
           ∙ c.loop-due.invariant.2,

@@ -4,15 +4,15 @@ use Rattle.scan.specs.Places.{places_from, places_words, at_place}
 use Rattle.encoding.proofs.Loops.{words_all}
 use Rattle.scan.proofs.Placed.{places_step, places_of_body, found_here, found_later, found_no_statement}
 use Rattle.scan.proofs.find_statement.Goals as goal
-use Rattle.scan.proofs.find_statement.Goals.{then-begins-statement+else-left-eq0, else-begins-statement}
+use Rattle.scan.proofs.find_statement.Goals.{then-begins_statement+else-left-eq0, else-begins_statement}
 
 pub returns-then-left-eq0 : goal.returns-then-left-eq0
 returns-then-left-eq0 c =
     let xs = c.args.words.now in
-    let step = places_step xs c.loop-i.i c.loop-i.declaration c.begins_statement_lem.result _ c.read-word.result
-    c.loop-i-test.true c.read-word.ensures.value c.begins_statement_lem.ensures refl in
+    let step = places_step xs c.loop-i.i c.loop-i.declaration c.begins_statement_lem.result _ c.read_word.result
+    c.loop-i-test.true c.read_word.ensures.value c.begins_statement_lem.ensures refl in
     let done : Some c.loop-i.i ≡ at_place c.args.place (places_words (map read_word xs)) =
-    sym (found_here c.begins_statement_lem.result c.loop-i.left c.loop-i.i _ c.if-begins-statement.true c.if-left-eq0.true)
+    sym (found_here c.begins_statement_lem.result c.loop-i.left c.loop-i.i _ c.if-begins_statement.true c.if-left-eq0.true)
     ∙ sym (ap (at_place c.loop-i.left) step) ∙ c.loop-i.invariant in
     record { value = done; tree = λ ss e. done ∙ ap (λ ws. at_place c.args.place (places_words ws)) e ∙ ap (at_place c.args.place) (places_of_body ss) }
 
@@ -21,16 +21,16 @@ loop-i-preserved c =
     let xs = c.args.words.now in
     let b = c.begins_statement_lem.result in
     let ps = places_from (c.loop-i.i + 1) c.declares-declaration.result (drop (c.loop-i.i + 1) (map read_word xs)) in
-    let step = places_step xs c.loop-i.i c.loop-i.declaration b c.declares-declaration.result c.read-word.result
-    c.loop-i-test.true c.read-word.ensures.value c.begins_statement_lem.ensures c.declares-declaration.ensures in
-    elim c.if-begins-statement.branch [
-      | then-begins-statement+else-left-eq0 w ↦
+    let step = places_step xs c.loop-i.i c.loop-i.declaration b c.declares-declaration.result c.read_word.result
+    c.loop-i-test.true c.read_word.ensures.value c.begins_statement_lem.ensures c.declares-declaration.ensures in
+    elim c.if-begins_statement.branch [
+      | then-begins_statement+else-left-eq0 w ↦
           ap (λ n. at_place n ps) w.left-is
-          ∙ sym (found_later b c.loop-i.left c.loop-i.i ps w.if-begins-statement.true w.if-left-eq0.false)
+          ∙ sym (found_later b c.loop-i.left c.loop-i.i ps w.if-begins_statement.true w.if-left-eq0.false)
           ∙ sym (ap (at_place c.loop-i.left) step) ∙ c.loop-i.invariant
-      | else-begins-statement w ↦
+      | else-begins_statement w ↦
           ap (λ n. at_place n ps) w.left-is
-          ∙ sym (found_no_statement b c.loop-i.left c.loop-i.i ps w.if-begins-statement.false)
+          ∙ sym (found_no_statement b c.loop-i.left c.loop-i.i ps w.if-begins_statement.false)
           ∙ sym (ap (at_place c.loop-i.left) step) ∙ c.loop-i.invariant
     ]
 

@@ -8,7 +8,7 @@ use Rattle.scan.proofs.weigh.Goals as goal
 pub loop-i-preserved : goal.loop-i-preserved
 loop-i-preserved c =
     let step = words_more weight_words c.args.words.now c.loop-i.i c.loop-i-test.true in
-    (omega arith, omega (arith, c.weight-at-weight.ensures.value, step, c.loop-i.invariant.1))
+    (omega arith, omega (arith, c.weight_at-weight.ensures.value, step, c.loop-i.invariant.1))
 
 pub returns : goal.returns
 returns c =

@@ -21,7 +21,7 @@ returns-in-None c =
     let rows = c.args.rows.now in
     let entries = c.args.entries.now in
     record {
-      answer = c.first-bad-row.ensures ∙ ap (λ (o : Option HostFault). or_else o (first_bad (sheet_row_allowed rows entries) 0 rows)) c.in-None.ensures;
+      answer = c.first_bad_row.ensures ∙ ap (λ (o : Option HostFault). or_else o (first_bad (sheet_row_allowed rows entries) 0 rows)) c.in-None.ensures;
       meaning = from_row rows entries;
       values = meanings_of_values;
     }

@@ -5,15 +5,15 @@ use Rattle.sheet.specs.SheetRows.{sheet_row_allowed}
 use Rattle.hosts.proofs.RowLemmas.{bad_here, allowed_here}
 use Rattle.sheet.proofs.first_bad_row.Goals as goal
 
-pub returns-then-not-is-allowed : goal.returns-then-not-is-allowed
-returns-then-not-is-allowed c =
+pub returns-then-not-is_allowed : goal.returns-then-not-is_allowed
+returns-then-not-is_allowed c =
     let allowed = sheet_row_allowed c.args.rows.now c.args.entries.now in
-    sym (c.loop-i.invariant ∙ bad_here allowed c.args.rows.now c.loop-i.i c.loop-i-test.true c.if-not-is-allowed.ensures)
+    sym (c.loop-i.invariant ∙ bad_here allowed c.args.rows.now c.loop-i.i c.loop-i-test.true c.if-not-is_allowed.ensures)
 
 pub loop-i-preserved : goal.loop-i-preserved
 loop-i-preserved c =
     let allowed = sheet_row_allowed c.args.rows.now c.args.entries.now in
-    c.loop-i.invariant ∙ allowed_here allowed c.args.rows.now c.loop-i.i c.loop-i-test.true c.if-not-is-allowed.ensures
+    c.loop-i.invariant ∙ allowed_here allowed c.args.rows.now c.loop-i.i c.loop-i-test.true c.if-not-is_allowed.ensures
 
 pub returns : goal.returns
 returns c =

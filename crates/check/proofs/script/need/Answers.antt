@@ -1,4 +1,4 @@
-use Rattle.std.proofs.Common.{[], ◌∷◌, reverse, length, sym, ap, ◌∙◌, arith, length_append, ne_eqb}
+use Rattle.std.proofs.Common.{[], ◌∷◌, reverse, length, sym, ap, ◌∙◌, arith, length-append, ne_eqb}
 use Rattle.std.proofs.lemmas.List.{reverse-append}
 use Rattle.std.proofs.lemmas.Bool.{cond-false}
 use Rattle.bounded.specs.Stack.{held}
@@ -9,7 +9,7 @@ returns-then-frame-ne0 c =
     let s = c.args.frames.now in
     record {
       held = ap reverse c.put.ensures.held ∙ reverse-append (held s) (c.args.frame ∷ []) ∙ sym (cond-false _ _ _ (ne_eqb _ _ c.if-frame-ne0.true));
-      len = omega (arith, simp length_append at (ap length c.put.ensures.held));
+      len = omega (arith, simp length-append at (ap length c.put.ensures.held));
       room = c.put.ensures.room;
       lender = c.put.ensures.lender;
     }

@@ -1,4 +1,4 @@
-use Rattle.std.proofs.Common.{◌≡◌, ◌+◌, [], ◌∷◌, ◌++◌, length, get_or, take, sym, ap, ◌∙◌, append_assoc, arith, length_append}
+use Rattle.std.proofs.Common.{◌≡◌, ◌+◌, [], ◌∷◌, ◌++◌, length, get_or, take, sym, ap, ◌∙◌, append_assoc, arith, length-append}
 use Rattle.std.proofs.lemmas.List.{take_more, take_all, length-take-le}
 use Rattle.bounded.specs.Stack.{held, room}
 use Rattle.check.proofs.script.put_all.Goals as goal
@@ -7,7 +7,7 @@ pub put-requires : goal.put-requires
 put-requires c =
     let xs = c.args.values.now in
     let i = c.loop-i.i in
-    let n = ap length c.loop-i.invariant.0 ∙ length_append (held c.args.stack.now) (take i xs) in
+    let n = ap length c.loop-i.invariant.0 ∙ length-append (held c.args.stack.now) (take i xs) in
     let t : length (take i xs) ≡ i = length-take-le i xs c.loop-i.auto.i-end in
     let r = c.loop-i.invariant.1 in
     omega (arith, c.requires, c.loop-i-test.true)

@@ -17,12 +17,12 @@ step-requires c =
       at = i.0;
     }
 
-pub returns-in-err-step : goal.returns-in-err-step
-returns-in-err-step c =
+pub returns-in_err-step : goal.returns-in_err-step
+returns-in_err-step c =
     let i = c.loop-frame.invariant in
     let e = popped c.loop-frame.frames c.pop.new.self c.in-Some.frame c.in-Some.ensures.cases in
-    err_is c.from-residual.result c.in-err-step.field-0.0 c.from-residual.ensures.1
-    ∙ sym c.in-err-step.ensures.cases
+    err_is c.from_residual.result c.in_err-step.field-0.0 c.from_residual.ensures.1
+    ∙ sym c.in_err-step.ensures.cases
     ∙ ap (λ x. check c.args.count (dues (held c.loop-frame.labels) (held c.loop-frame.iterations) x) (drop c.loop-frame.at (map read_word c.args.words.now)) c.loop-frame.at) (sym e)
     ∙ i.4.same
 
@@ -30,7 +30,7 @@ pub loop-frame-preserved : goal.loop-frame-preserved
 loop-frame-preserved c =
     let i = c.loop-frame.invariant in
     let e = popped c.loop-frame.frames c.pop.new.self c.in-Some.frame c.in-Some.ensures.cases in
-    let s = c.in-ok-step.ensures.cases in (
+    let s = c.in_ok-step.ensures.cases in (
       let h = s.0 in omega arith,
       c.step.ensures.rooms.0,
       c.step.ensures.rooms.1,
@@ -39,13 +39,13 @@ loop-frame-preserved c =
           (drop c.loop-frame.at (map read_word c.args.words.now)) _ c.loop-frame.at _ _ e i.4 s.1,
     )
 
-pub returns-in-err-end : goal.returns-in-err-end
-returns-in-err-end c =
-    err_is c.from-residual-in-err-end.result (Reader c.in-err-end.field-0.0) c.from-residual-in-err-end.ensures.1
-    ∙ sym (left_over c.args.count (held c.loop-frame.labels) (held c.loop-frame.iterations) (frames_of c.loop-frame.frames) (drop c.loop-frame.at (map read_word c.args.words.now)) c.loop-frame.at _ c.in-err-end.field-0.0
-    (ap reverse c.in-default.ensures.cases.0) c.loop-frame.invariant.4 (sym c.end.ensures ∙ c.in-err-end.was))
+pub returns-in_err-end : goal.returns-in_err-end
+returns-in_err-end c =
+    err_is c.from_residual-in_err-end.result (Reader c.in_err-end.field-0.0) c.from_residual-in_err-end.ensures.1
+    ∙ sym (left_over c.args.count (held c.loop-frame.labels) (held c.loop-frame.iterations) (frames_of c.loop-frame.frames) (drop c.loop-frame.at (map read_word c.args.words.now)) c.loop-frame.at _ c.in_err-end.field-0.0
+    (ap reverse c.in-default.ensures.cases.0) c.loop-frame.invariant.4 (sym c.end.ensures ∙ c.in_err-end.was))
 
 pub returns : goal.returns
 returns c =
     sym (all_read c.args.count (held c.loop-frame.labels) (held c.loop-frame.iterations) (frames_of c.loop-frame.frames) (drop c.loop-frame.at (map read_word c.args.words.now)) c.loop-frame.at _
-    (ap reverse c.in-default.ensures.cases.0) c.loop-frame.invariant.4 (sym c.end.ensures ∙ c.in-ok-end.was))
+    (ap reverse c.in-default.ensures.cases.0) c.loop-frame.invariant.4 (sym c.end.ensures ∙ c.in_ok-end.was))

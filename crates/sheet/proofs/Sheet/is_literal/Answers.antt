@@ -5,4 +5,4 @@ use Rattle.sheet.proofs.Sheet.is_literal.Goals as goal
 pub returns : goal.returns
 returns c =
     let h = c.args.self.now in
-    c.is-literal-row.ensures ∙ literal_at h.rows.now h.entries.now h.accepted c.args.e
+    c.is_literal_row.ensures ∙ literal_at h.rows.now h.entries.now h.accepted c.args.e

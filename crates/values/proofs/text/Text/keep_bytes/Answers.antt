@@ -8,7 +8,7 @@ use Rattle.values.proofs.text.Text.keep_bytes.Goals as goal
 pub returns : goal.returns
 returns c =
     let t = c.args.self.now in
-    let i = c.args.-i in
+    let i = c.args._i in
     let n = join_halves t.low t.high in
     record {
       past = λ p. let l = length_bytes t.len n in slice_get_past (text_bytes t) i (omega arith);

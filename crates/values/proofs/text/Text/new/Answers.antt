@@ -7,13 +7,13 @@ pub invariant-of-result-2 : goal.invariant-of-result-2
 invariant-of-result-2 c =
     let xs = c.args.bytes.now in
     let long : half_length ≤ length xs = omega arith in
-    let within = halves_within xs c.number-of-low.result c.number-of-high.result long c.number-of-low.type-inv c.number-of-high.ensures.within in
-    (omega arith, (omega arith, (c.number-of-low.type-inv, (within, tt))))
+    let within = halves_within xs c.number_of-low.result c.number_of-high.result long c.number_of-low.type-inv c.number_of-high.ensures.within in
+    (omega arith, (omega arith, (c.number_of-low.type-inv, (within, tt))))
 
 pub returns : goal.returns
 returns c =
     let xs = c.args.bytes.now in
     let long : half_length ≤ length xs = omega arith in
     let allowed = allowed_length (length xs) (omega arith) (omega arith) in
-    ap (λ (l : List ℕ). Some l) (halves_bytes xs c.number-of-low.result c.number-of-high.result long c.number-of-low.type-inv c.number-of-low.ensures.bytes c.number-of-high.ensures.bytes)
+    ap (λ (l : List ℕ). Some l) (halves_bytes xs c.number_of-low.result c.number_of-high.result long c.number_of-low.type-inv c.number_of-low.ensures.bytes c.number_of-high.ensures.bytes)
     ∙ sym (ap (λ (b : Bool). cond b (Some xs) None) allowed)
