@@ -5,8 +5,8 @@ use Rattle.words.specs.Words.{max_words}
 use Rattle.scan.specs.Weight.{weight_words}
 use Rattle.scan.proofs.Weights.{weight_of_body}
 use Rattle.faults.specs.declared.tree.TreeFault.{TreeFault}
-use Rattle.check.specs.Check.{Verdict, check_script}
-use Rattle.check.proofs.Lawful.{laws}
+use Rattle.checker.specs.Check.{Verdict, check_script}
+use Rattle.checker.proofs.Lawful.{laws}
 use Rattle.faults.specs.declared.call.CallFault.{CallFault}
 use Rattle.faults.specs.declared.call.CallFault.TheVariants.{Used, TooLong, WorkingWords, Labels, Tree}
 use Rattle.calls.specs.declared.record.Record.{Record}

@@ -3,7 +3,7 @@ use Rattle.std.specs.Prelude.{ℕ, ◌*◌, Bool, true, false, cond, ◌||◌, L
 use Rattle.words.specs.declared.word.Word.{Word}
 use Rattle.words.specs.Words.{read_word, max_words}
 use Rattle.scan.specs.Weight.{weight_words}
-use Rattle.check.specs.Check.{Verdict, check_script}
+use Rattle.checker.specs.Check.{Verdict, check_script}
 use Rattle.faults.specs.declared.call.CallFault.{CallFault}
 use Rattle.faults.specs.declared.call.CallFault.TheVariants.{Used, TooLong, WorkingWords, Labels, Tree}
 use Rattle.calls.specs.declared.record.Record.{Record}

@@ -6,8 +6,8 @@ use Rattle.words.specs.Tree.{Statements}
 use Rattle.words.specs.Encode.{encode_body}
 use Rattle.scan.specs.Weight.{weight_body}
 use Rattle.faults.specs.declared.tree.TreeFault.{TreeFault}
-use Rattle.check.specs.Laws.{place_of}
-use Rattle.check.specs.Rules.{Script}
+use Rattle.checker.specs.Laws.{place_of}
+use Rattle.checker.specs.Rules.{Script}
 use Rattle.faults.specs.declared.call.CallFault.TheVariants.{Tree}
 use Rattle.calls.specs.declared.record.Record.{Record}
 use Rattle.calls.specs.Load.{lengths_refused, script_words, new_record, load_answer}

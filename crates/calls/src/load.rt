@@ -4,7 +4,7 @@ ghost use Rattle.calls.specs.Load.{lengths_refused, load_answer};
 ghost use Rattle.calls.specs.LoadLaws.{LoadLaws};
 
 use crate::record::Record;
-use check::script::check;
+use checker::script::check;
 use faults::call::CallFault;
 use host::Host;
 use scan::weigh;

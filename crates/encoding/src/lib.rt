@@ -2,4 +2,3 @@
 // of `end_of` and `check`.
 
 #![tactic(auto)]
-

@@ -6,10 +6,10 @@ use Rattle.host.specs.Sequence.{parts_of, last_number, ask, truth_of, value_of, 
 use Rattle.words.specs.Tree.{Expression, expression, Declarator, Name, NameInit, Start, no_start, start_expression, start_var, start_let}
 use Rattle.words.specs.Tree.{Statement, Empty, Break, Continue, Block, Expr, Throw, Var, If, IfElse, For, While, Do, Switch, Label, BreakTo, ContinueTo, Return, TryCatch, TryFinally, TryBoth}
 use Rattle.words.specs.Tree.{Statements, none, some, Let, Cases, no_case, case}
-use Rattle.check.specs.Check.{Around, depth_limit}
+use Rattle.checker.specs.Check.{Around, depth_limit}
 use Rattle.slices.specs.Among.{among}
-use Rattle.check.specs.Rules.{Keeps, KeepsList, KeepsCases, Known, KnownOptional, KnownDeclarators, KnownStart, AllBelow, inside, loop_body, switch_case, labelled, listed, OneDefault, NoDefault}
-use Rattle.check.specs.Check.{nowhere}
+use Rattle.checker.specs.Rules.{Keeps, KeepsList, KeepsCases, Known, KnownOptional, KnownDeclarators, KnownStart, AllBelow, inside, loop_body, switch_case, labelled, listed, OneDefault, NoDefault}
+use Rattle.checker.specs.Check.{nowhere}
 use Rattle.meaning.specs.Fold.Folded.{Folded, unchanged, changed}
 use Rattle.meaning.specs.Fold.KeepVar.{keep_var, stub_or_empty}
 use Rattle.meaning.specs.Fold.Block.{Parent, block_parent}

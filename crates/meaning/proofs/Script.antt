@@ -7,9 +7,9 @@ use Rattle.meaning.specs.Run.{bound_names, let_names, let_names_cases, act, eval
 use Rattle.words.specs.Tree.{Expression, expression, Declarator, Name, NameInit, Start, no_start, start_expression, start_var, start_let}
 use Rattle.words.specs.Tree.{Statement, Empty, Break, Continue, Block, Expr, Throw, Var, If, IfElse, For, While, Do, Switch, Label, BreakTo, ContinueTo, Return, TryCatch, TryFinally, TryBoth}
 use Rattle.words.specs.Tree.{Statements, none, some, Let, Cases, no_case, case}
-use Rattle.check.specs.Check.{Around, nowhere}
+use Rattle.checker.specs.Check.{Around, nowhere}
 use Rattle.slices.specs.Among.{among}
-use Rattle.check.specs.Rules.{Keeps, KeepsList, KeepsCases, inside, loop_body, switch_case, labelled, listed}
+use Rattle.checker.specs.Rules.{Keeps, KeepsList, KeepsCases, inside, loop_body, switch_case, labelled, listed}
 use Rattle.meaning.specs.Laws.{EndsScript, AcceptedEnds}
 use Rattle.meaning.proofs.Within.{Within, Open, within_end, within_eval, within_declare, within_branch, within_for, within_while, within_do, within_breakable, within_cases, AllWithin, within_label, within_return, within_try, within_scoped, within_both, within_list}
 

@@ -7,7 +7,7 @@ use Rattle.meaning.specs.Run.{bound_names, let_names, let_names_cases, act, eval
 use Rattle.words.specs.Tree.{Expression, expression, Declarator, Name, NameInit, Start, no_start, start_expression, start_var, start_let}
 use Rattle.words.specs.Tree.{Statement, Empty, Break, Continue, Block, Expr, Throw, Var, If, IfElse, For, While, Do, Switch, Label, BreakTo, ContinueTo, Return, TryCatch, TryFinally, TryBoth}
 use Rattle.words.specs.Tree.{Statements, none, some, Let, Cases, no_case, case}
-use Rattle.check.specs.Rules.{OneDefault, NoDefault}
+use Rattle.checker.specs.Rules.{OneDefault, NoDefault}
 use Rattle.meaning.specs.Fold.KeepVar.{keep_start, keep_var, keep_list, keep_cases}
 use Rattle.meaning.specs.VarDeclaredNames.{for_names, var_declared_names, names_of_list, names_of_clauses, names_before_default, names_of_default, names_after_default}
 use Rattle.meaning.specs.CaseBlock.{CaseClause, CaseBlock, without_default, with_default, clauses_then, written, case_clause_is_selected, each_clause, evaluate_each, default_and_after, case_block_evaluation}

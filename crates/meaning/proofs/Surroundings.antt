@@ -8,9 +8,9 @@ use Rattle.meaning.specs.Run.{bound_names, let_names, let_names_cases, act, eval
 use Rattle.words.specs.Tree.{Expression, expression, Declarator, Name, NameInit, Start, no_start, start_expression, start_var, start_let}
 use Rattle.words.specs.Tree.{Statement, Empty, Break, Continue, Block, Expr, Throw, Var, If, IfElse, For, While, Do, Switch, Label, BreakTo, ContinueTo, Return, TryCatch, TryFinally, TryBoth}
 use Rattle.words.specs.Tree.{Statements, none, some, Let, Cases, no_case, case}
-use Rattle.check.specs.Check.{Around, depth_limit}
+use Rattle.checker.specs.Check.{Around, depth_limit}
 use Rattle.slices.specs.Among.{among}
-use Rattle.check.specs.Rules.{Keeps, KeepsList, KeepsCases, inside, loop_body, switch_case, labelled, listed}
+use Rattle.checker.specs.Rules.{Keeps, KeepsList, KeepsCases, inside, loop_body, switch_case, labelled, listed}
 use Rattle.meaning.specs.FoldLaws.{Sound}
 use Rattle.meaning.proofs.Within.{Within}
 use Rattle.meaning.proofs.Script.{Allowed, among_either, stays}

@@ -3,9 +3,9 @@
 use Rattle.std.specs.Prelude.{◌≡◌, ℕ, ◌≤◌, Bool, true, false, List, []}
 use Rattle.words.specs.Tree.{Statement, Statements}
 use Rattle.host.specs.Model.{Model, Lawful}
-use Rattle.check.specs.Check.{Around, nowhere}
+use Rattle.checker.specs.Check.{Around, nowhere}
 use Rattle.slices.specs.Among.{among}
-use Rattle.check.specs.Rules.{Keeps, KeepsList}
+use Rattle.checker.specs.Rules.{Keeps, KeepsList}
 use Rattle.meaning.specs.Run.{run, run_body}
 use Rattle.meaning.specs.Fold.Block.{Parent}
 use Rattle.meaning.specs.Fold.KeepVar.{keep_var, keep_list}

@@ -3,8 +3,8 @@
 use Rattle.std.specs.Prelude.{◌≡◌, ℕ, ◌≤◌, true, false, List, [], Option}
 use Rattle.words.specs.Tree.{Expression, Start, Statement, Statements, For, While, Do}
 use Rattle.host.specs.Model.{Model, World}
-use Rattle.check.specs.Check.{nowhere}
-use Rattle.check.specs.Rules.{KeepsList}
+use Rattle.checker.specs.Check.{nowhere}
+use Rattle.checker.specs.Rules.{KeepsList}
 use Rattle.meaning.specs.Completion.{Ending, normal, break, continue, gone, spent, break_to, continue_to, return, throw, Evaluation, is_normal, end, ◌thereafter◌, one_round, if_continues}
 use Rattle.meaning.specs.Run.{branch, branch_optional, eval_optional, renewed, for_body, run, run_body}
 use Rattle.meaning.specs.Fold.IsTerminated.{is_terminated}

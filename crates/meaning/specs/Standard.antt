@@ -2,7 +2,7 @@
 use Rattle.std.specs.Prelude.{◌≡◌, ℕ, List}
 use Rattle.words.specs.Tree.{Expression, Statement, Statements, Switch, Cases}
 use Rattle.host.specs.Model.{Model}
-use Rattle.check.specs.Rules.{OneDefault}
+use Rattle.checker.specs.Rules.{OneDefault}
 use Rattle.meaning.specs.Completion.{breakable}
 use Rattle.meaning.specs.Run.{let_names_cases, eval, scoped, run}
 use Rattle.meaning.specs.Fold.KeepVar.{keep_var, keep_list}

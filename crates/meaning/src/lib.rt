@@ -2,7 +2,6 @@
 
 #![tactic(auto)]
 
-
 pub mod examples;
 pub mod folds;
 pub mod runs;

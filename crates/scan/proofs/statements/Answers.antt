@@ -8,11 +8,11 @@ use Rattle.scan.proofs.statements.Goals.{then-begins_statement, else-begins_stat
 
 pub loop-i-preserved : goal.loop-i-preserved
 loop-i-preserved c =
-    let step = places_step c.args.words.now c.loop-i.i c.loop-i.declaration c.begins_statement_lem.result c.declares-declaration.result c.read_word.result
-    c.loop-i-test.true c.read_word.ensures.value c.begins_statement_lem.ensures c.declares-declaration.ensures in
+    let step = places_step c.args.words.now c.loop-i.i c.loop-i.declaration c.begins_statement.result c.declares-declaration.result c.read-word.result
+    c.loop-i-test.true c.read-word.ensures.value c.begins_statement.ensures c.declares-declaration.ensures in
     let ps = places_from (c.loop-i.i + 1) c.declares-declaration.result (drop (c.loop-i.i + 1) (map read_word c.args.words.now)) in
     let many = ap length step in
-    let b = c.begins_statement_lem.result in
+    let b = c.begins_statement.result in
     elim c.if-begins_statement.branch [
       | then-begins_statement w ↦
           (omega (arith, w.count-is), omega (arith, w.count-is, count_statement b c.loop-i.i ps w.if-begins_statement.true, many, c.loop-i.invariant.1))
