@@ -16,11 +16,12 @@ import sys
 
 PART = r"[A-Za-z0-9_'₀₁₂₃₄₅₆₇₈₉ℕ≡≤<+*]"
 TOKEN = re.compile(rf"(?<![A-Za-z0-9_'-]){PART}+(?:-{PART}+)*")
-HEAD = re.compile(r"^\s*((?:(?:abbrev|unfoldable|mutual|pub|data|record|ruleset)\s+)*)((?:[A-Za-z_][^\s(){}:.,;]*\s+)+):\s")
+HEAD = re.compile(r"^\s*((?:(?:abbrev|unfoldable|mutual|pub|data|record|ruleset)\s+)*)((?:[A-Za-z_][^\s(){}:.,;]*\s+)+)(?:[({].*[)}]\s*)?:(?:\s|$)")
 MADE = ("Answers.antt", "Invariants.antt", "Choices.antt", "Proof.antt")
 # Definitions that a file cites beside the Rust function of that name
 BESIDE_A_FUNCTION = (
-    "begins-statement", "count-fault", "for-parts", "has-depth", "is-constant", "is-label", "known-number", "largest-answer", "try-parts",
+    "begins-statement", "count-fault", "end-effects", "end-value", "false-operand", "for-parts", "has-depth", "is-command", "is-constant", "is-label",
+    "is-literal-row", "known-number", "largest-answer", "try-parts",
 )
 
 
@@ -35,7 +36,7 @@ def files(endings, top="crates"):
 def declared():
     names = set()
     for path in files((".antt",)):
-        if path.endswith(MADE):
+        if os.path.basename(path) in MADE:
             continue
         for line in open(path, encoding="utf-8"):
             found = None if line.lstrip().startswith("--") else HEAD.match(line)

@@ -8,7 +8,7 @@ use Rattle.words.specs.Words.{word, code, read_word}
 use Rattle.words.specs.Tree.{Expression, expression}
 use Rattle.words.specs.Encode.{encode_expression}
 use Rattle.host.specs.Model.{Model, Lawful, Value, World, Outcome, gives, throws, no_return}
-use Rattle.host.specs.Sequence.{numbers, part_numbers, parts_of, last_number, sole_number, ask, truth_of, value_of, effects_of, literal_of, and_then, evaluate_of, Sequence-laws}
+use Rattle.host.specs.Sequence.{numbers, part_numbers, parts_of, last_number, sole_number, ask, truth_of, value_of, effects_of, literal_of, and_then, evaluate_of, SequenceLaws}
 
 -- what follows the word of a Sequence
 pub after_head : (words : List ℕ) → 0 < length words → code (read_word (get_or words 0 0)).kind ≡ code kind.Sequence →
@@ -109,7 +109,7 @@ module _ (m : Model) (l : Lawful m) where
       let rest : map read_word ws ≡ map (word kind.Expression) (e ∷ d ∷ es) = cc in
       ap (λ (x : Word). cond (eqb (code x.kind) (code kind.Sequence)) (numbers ws) (numbers (w ∷ ws))) here ∙ numbers_of ws (e ∷ d ∷ es) rest
 
-  pub sequence_laws : (words : List ℕ) → Sequence-laws m words
+  pub sequence_laws : (words : List ℕ) → SequenceLaws m words
   sequence_laws words = record {
     parts = parts_hold words;
     truth = truth_holds (part_numbers words) _ refl;

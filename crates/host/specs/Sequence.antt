@@ -66,7 +66,7 @@ evaluate_of m (e ∷ []) w = m.evaluate e w
 evaluate_of m (e ∷ d ∷ es) w = and_then (m.evaluate e w) (evaluate_of m (d ∷ es))
 
 -- The laws of a host's answers, for the expression with these words.
-pub record Sequence-laws (m : Model) (words : List ℕ) : Type 0 where
+pub record SequenceLaws (m : Model) (words : List ℕ) : Type 0 where
   -- the parts are those of the expression that the words encode
   pub parts : (x : Expression) → map read_word words ≡ encode_expression x → part_numbers words ≡ parts_of x
   -- a known truth is that of every value that evaluation gives

@@ -2,7 +2,7 @@
 // Sequence and its parts. Proved once for every host.
 ghost use Rattle.std.specs.Prelude.{◌≡◌};
 ghost use Rattle.std.specs.Option.{option_map};
-ghost use Rattle.host.specs.Sequence.{numbers, part_numbers, last_number, sole_number, truth_of, value_of, effects_of, literal_of, Sequence-laws};
+ghost use Rattle.host.specs.Sequence.{numbers, part_numbers, last_number, sole_number, truth_of, value_of, effects_of, literal_of, SequenceLaws};
 
 use crate::Host;
 use words::word::{Kind, Word};
@@ -52,13 +52,13 @@ fn any_effects<H: Host>(h: &H, parts: &[u32]) -> bool
 
 // Does nothing when run: it carries the laws into the contracts of its callers.
 fn keep_laws<H: Host>(_h: &H, _words: &[u32])
-    ensures { Sequence-laws (H.Host.model _h.now) _words.now }
+    ensures { SequenceLaws (H.Host.model _h.now) _words.now }
 {}
 
 // The truth of an expression, where it is known: its last part's.
 pub fn truth_of<H: Host>(h: &H, words: &[u32]) -> Option<bool>
     ensures answer { result ≡ truth_of (H.Host.model h.now) (part_numbers words.now) }
-    ensures laws { Sequence-laws (H.Host.model h.now) words.now }
+    ensures laws { SequenceLaws (H.Host.model h.now) words.now }
 {
     keep_laws(h, words);
     match last_part(words) {
@@ -70,7 +70,7 @@ pub fn truth_of<H: Host>(h: &H, words: &[u32]) -> Option<bool>
 // The value of an expression, where it is known: its last part's.
 pub fn value_of<H: Host>(h: &H, words: &[u32]) -> Option<H::Value>
     ensures answer { option_map H.Host.meaning result ≡ value_of (H.Host.model h.now) (part_numbers words.now) }
-    ensures laws { Sequence-laws (H.Host.model h.now) words.now }
+    ensures laws { SequenceLaws (H.Host.model h.now) words.now }
 {
     keep_laws(h, words);
     match last_part(words) {
@@ -82,7 +82,7 @@ pub fn value_of<H: Host>(h: &H, words: &[u32]) -> Option<H::Value>
 // Whether an expression has effects: whether any part has.
 pub fn effects_of<H: Host>(h: &H, words: &[u32]) -> bool
     ensures answer { result ≡ effects_of (H.Host.model h.now) (part_numbers words.now) }
-    ensures laws { Sequence-laws (H.Host.model h.now) words.now }
+    ensures laws { SequenceLaws (H.Host.model h.now) words.now }
 {
     keep_laws(h, words);
     any_effects(h, parts(words))
@@ -91,7 +91,7 @@ pub fn effects_of<H: Host>(h: &H, words: &[u32]) -> bool
 // Whether an expression is a literal: a single part that is one.
 pub fn literal_of<H: Host>(h: &H, words: &[u32]) -> bool
     ensures answer { result ≡ literal_of (H.Host.model h.now) (part_numbers words.now) }
-    ensures laws { Sequence-laws (H.Host.model h.now) words.now }
+    ensures laws { SequenceLaws (H.Host.model h.now) words.now }
 {
     keep_laws(h, words);
     match sole_part(words) {

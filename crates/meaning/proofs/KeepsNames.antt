@@ -6,7 +6,7 @@ use Rattle.host.specs.Sequence.{parts_of, last_number, ask, truth_of, value_of, 
 use Rattle.words.specs.Tree.{Expression, expression, Declarator, Name, NameInit, Start, no_start, start_expression, start_var, start_let}
 use Rattle.words.specs.Tree.{Statement, Empty, Break, Continue, Block, Expr, Throw, Var, If, IfElse, For, While, Do, Switch, Label, BreakTo, ContinueTo, Return, TryCatch, TryFinally, TryBoth}
 use Rattle.words.specs.Tree.{Statements, none, some, Let, Cases, no_case, case}
-use Rattle.meaning.specs.FoldLaws.{Names-left, FoldKeepsNames, StepKeepsNames, PassKeepsNames, SettleKeepsNames}
+use Rattle.meaning.specs.FoldLaws.{NamesLeft, FoldKeepsNames, StepKeepsNames, PassKeepsNames, SettleKeepsNames}
 use Rattle.meaning.specs.Fold.Folded.{Folded, folded, unchanged, changed, if_so, plus_changes}
 use Rattle.meaning.specs.Fold.KeepVar.{keep_start, keep_var, keep_list, keep_cases, stub_var, stub_or_empty, stub_list}
 use Rattle.meaning.specs.Fold.IsTerminated.{is_bare_var}
@@ -130,21 +130,21 @@ module _ (m : Model) where
   for_names i t u s = for_test_names (drop_start m i).result t (drop_update m u).result s ∙ ap (λ x. x ++ keep_var s) (start_names i)
 
   -- a dead branch keeps the names that have to stay
-  stub_names : (s : Statement) (x : ℕ) (xs : List ℕ) → not_granted m (keep_var s) ≡ x ∷ xs → Names-left m (keep_var s) (keep_var (stub_branch s x xs).result)
+  stub_names : (s : Statement) (x : ℕ) (xs : List ℕ) → not_granted m (keep_var s) ≡ x ∷ xs → NamesLeft m (keep_var s) (keep_var (stub_branch s x xs).result)
   stub_names s x xs q = go (is_bare_var s)
     where
-      go : (b : Bool) → Names-left m (keep_var s) (keep_var (cond b (unchanged s) (changed (stub_var x xs))).result)
+      go : (b : Bool) → NamesLeft m (keep_var s) (keep_var (cond b (unchanged s) (changed (stub_var x xs))).result)
       go true = left_same m (keep_var s)
       go false = left_chain m _ _ _ (left_granted m (keep_var s)) (left_eq m _ _ (keep_stub_var x xs ∙ sym q))
 
-  alternate_stub_names : (t : Option Statement) (x : ℕ) (xs : List ℕ) → not_granted m (keep_optional t) ≡ x ∷ xs → Names-left m (keep_optional t) (keep_optional (stub_alternate t x xs).result)
+  alternate_stub_names : (t : Option Statement) (x : ℕ) (xs : List ℕ) → not_granted m (keep_optional t) ≡ x ∷ xs → NamesLeft m (keep_optional t) (keep_optional (stub_alternate t x xs).result)
   alternate_stub_names None x xs q = left_same m []
   alternate_stub_names (Some t) x xs q = stub_names t x xs q
 
-  dropped_names : (xs : List ℕ) → not_granted m xs ≡ [] → Names-left m xs []
+  dropped_names : (xs : List ℕ) → not_granted m xs ≡ [] → NamesLeft m xs []
   dropped_names xs q = left_chain m _ _ _ (left_granted m xs) (left_eq m _ _ (sym q))
 
-  true_names : (ns : List ℕ) (e : Expression) (s : Statement) (t : Option Statement) → not_granted m (keep_optional t) ≡ ns → Names-left m (keep_var s ++ keep_optional t) (keep_var (fold_true m ns e s t).result)
+  true_names : (ns : List ℕ) (e : Expression) (s : Statement) (t : Option Statement) → not_granted m (keep_optional t) ≡ ns → NamesLeft m (keep_var s ++ keep_optional t) (keep_var (fold_true m ns e s t).result)
   unfolding keep_var
   true_names [] e s t q = left_chain m _ _ _ (left_append m _ _ _ _ (left_same m (keep_var s)) (dropped_names (keep_optional t) q)) (left_eq m _ _ (go (effects_of m (parts_of e)) ∙ sym (append_nil (keep_var s))))
     where
@@ -153,7 +153,7 @@ module _ (m : Model) where
       go false = refl
   true_names (x ∷ xs) e s t q = left_chain m _ _ _ (left_append m _ _ _ _ (left_same m (keep_var s)) (alternate_stub_names t x xs q)) (left_eq m _ _ (keep_if _ s (stub_alternate t x xs).result))
 
-  false_names : (ns : List ℕ) (e : Expression) (s : Statement) (t : Option Statement) → not_granted m (keep_var s) ≡ ns → Names-left m (keep_var s ++ keep_optional t) (keep_var (fold_false m ns e s t).result)
+  false_names : (ns : List ℕ) (e : Expression) (s : Statement) (t : Option Statement) → not_granted m (keep_var s) ≡ ns → NamesLeft m (keep_var s ++ keep_optional t) (keep_var (fold_false m ns e s t).result)
   unfolding keep_var
   false_names [] e s t q = left_chain m _ _ _ (left_append m _ _ _ _ (dropped_names (keep_var s) q) (left_same m (keep_optional t))) (left_eq m _ _ (go (effects_of m (parts_of e))))
     where
@@ -162,15 +162,15 @@ module _ (m : Model) where
       go false = keep_or_empty t
   false_names (x ∷ xs) e s t q = left_chain m _ _ _ (left_append m _ _ _ _ (stub_names s x xs q) (left_same m (keep_optional t))) (left_eq m _ _ (keep_if _ (stub_branch s x xs).result t))
 
-  parts_names : (b : Option Bool) (e : Expression) (s : Statement) (t : Option Statement) → Names-left m (keep_var s ++ keep_optional t) (keep_var (fold_test m b e s t).result)
+  parts_names : (b : Option Bool) (e : Expression) (s : Statement) (t : Option Statement) → NamesLeft m (keep_var s ++ keep_optional t) (keep_var (fold_test m b e s t).result)
   parts_names None e s t = left_eq m _ _ (keep_if e s t)
   parts_names (Some true) e s t = true_names (not_granted m (keep_optional t)) e s t refl
   parts_names (Some false) e s t = false_names (not_granted m (keep_var s)) e s t refl
 
-  if_names : (e : Expression) (s : Statement) → Names-left m (keep_var s) (keep_var (try_fold_if m e s).result)
+  if_names : (e : Expression) (s : Statement) → NamesLeft m (keep_var s) (keep_var (try_fold_if m e s).result)
   if_names e s = left_chain m _ _ _ (left_eq m _ _ (append_nil (keep_var s))) (parts_names (truth_of m (parts_of e)) e s None)
 
-  alternate_names : (s : Statement) → Names-left m (keep_var s) (keep_optional (fold_alternate m s).result)
+  alternate_names : (s : Statement) → NamesLeft m (keep_var s) (keep_optional (fold_alternate m s).result)
   unfolding fold_alternate keep_var
   alternate_names Empty = left_same m _
   alternate_names Break = left_same m _
@@ -195,7 +195,7 @@ module _ (m : Model) where
   alternate_names (TryFinally b f) = left_same m _
   alternate_names (TryBoth b x c f) = left_same m _
 
-  fold_names : (p : Parent) (s : Statement) → Names-left m (keep_var s) (keep_var (fold m [] p s).result)
+  fold_names : (p : Parent) (s : Statement) → NamesLeft m (keep_var s) (keep_var (fold m [] p s).result)
   unfolding fold keep_var
   fold_names p Empty = left_same m _
   fold_names p Break = left_same m _
@@ -219,13 +219,13 @@ module _ (m : Model) where
   fold_names p (TryBoth b x c f) = left_eq m _ _ (finish_both_names b x (fold_catch b c).result f ∙ ap (λ y. keep_list b ++ (y ++ keep_list f)) (catch_names b c))
 
   abbrev R : Statement → Statement → ℕ → Type 0
-  R s t n = Names-left m (keep_var s) (keep_var t)
+  R s t n = NamesLeft m (keep_var s) (keep_var t)
 
   abbrev L : Statements → Statements → ℕ → Type 0
-  L ss ts n = Names-left m (keep_list ss) (keep_list ts)
+  L ss ts n = NamesLeft m (keep_list ss) (keep_list ts)
 
   abbrev C : Cases → Cases → ℕ → Type 0
-  C cs ds n = Names-left m (keep_cases cs) (keep_cases ds)
+  C cs ds n = NamesLeft m (keep_cases cs) (keep_cases ds)
 
   closed : Closed R L C
   unfolding keep_var

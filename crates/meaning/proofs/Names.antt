@@ -8,7 +8,7 @@ use Rattle.words.specs.Tree.{Statement, Empty, Break, Continue, Block, Expr, Thr
 use Rattle.words.specs.Tree.{Statements, none, some, Let, Cases, no_case, case}
 use Rattle.slices.specs.Among.{among}
 use Rattle.meaning.specs.Run.{bound_names}
-use Rattle.meaning.specs.FoldLaws.{Names-left}
+use Rattle.meaning.specs.FoldLaws.{NamesLeft}
 use Rattle.meaning.specs.Fold.KeepVar.{keep_var, keep_list, keep_cases, stub_var, stub_or_empty, stub_list}
 use Rattle.meaning.specs.Fold.If.{not_granted}
 use Rattle.meaning.specs.Fold.Select.{join}
@@ -27,24 +27,24 @@ neither_right true b q = contrary true refl q
 neither_right false b q = q
 
 module _ (m : Model) where
-  pub left_same : (xs : List ℕ) → Names-left m xs xs
+  pub left_same : (xs : List ℕ) → NamesLeft m xs xs
   left_same xs = record { old = λ x q. q; granted = λ x p q. contrary (among x xs) p q }
 
-  pub left_eq : (xs ys : List ℕ) → ys ≡ xs → Names-left m xs ys
+  pub left_eq : (xs ys : List ℕ) → ys ≡ xs → NamesLeft m xs ys
   left_eq xs ys e = record { old = λ x q. ap (among x) (sym e) ∙ q; granted = λ x p q. contrary (among x xs) p (ap (among x) (sym e) ∙ q) }
 
   -- the same names in another order
-  pub left_alike : (xs ys : List ℕ) → ((x : ℕ) → among x ys ≡ among x xs) → Names-left m xs ys
+  pub left_alike : (xs ys : List ℕ) → ((x : ℕ) → among x ys ≡ among x xs) → NamesLeft m xs ys
   left_alike xs ys e = record { old = λ x q. sym (e x) ∙ q; granted = λ x p q. contrary (among x xs) p (sym (e x) ∙ q) }
 
-  pub left_chain : (xs ys zs : List ℕ) → Names-left m xs ys → Names-left m ys zs → Names-left m xs zs
+  pub left_chain : (xs ys zs : List ℕ) → NamesLeft m xs ys → NamesLeft m ys zs → NamesLeft m xs zs
   left_chain xs ys zs p q = record { old = λ x r. p.old x (q.old x r); granted = λ x r s. go x r s (among x ys) refl }
     where
       go : (x : ℕ) → among x xs ≡ true → among x zs ≡ false → (b : Bool) → among x ys ≡ b → m.granted? x ≡ true
       go x r s true e = q.granted x e s
       go x r s false e = p.granted x r e
 
-  pub left_append : (xs ys us vs : List ℕ) → Names-left m xs ys → Names-left m us vs → Names-left m (xs ++ us) (ys ++ vs)
+  pub left_append : (xs ys us vs : List ℕ) → NamesLeft m xs ys → NamesLeft m us vs → NamesLeft m (xs ++ us) (ys ++ vs)
   left_append xs ys us vs p q = record {
     old = λ x. append_more x ys vs xs us (p.old x) (q.old x);
     granted = λ x r s. go x (sym (among_append x xs us) ∙ r) (sym (among_append x ys vs) ∙ s) (among x xs) refl;
@@ -55,11 +55,11 @@ module _ (m : Model) where
       go x r s false e = q.granted x (sym (ap (λ b. cond b true (among x us)) e) ∙ r) (neither_right (among x ys) (among x vs) s)
 
   -- names that are all granted may go
-  pub left_granted : (xs : List ℕ) → Names-left m xs (not_granted m xs)
+  pub left_granted : (xs : List ℕ) → NamesLeft m xs (not_granted m xs)
   left_granted [] = left_same []
   left_granted (x ∷ xs) = go (m.granted? x) refl (left_granted xs)
     where
-      go : (b : Bool) → m.granted? x ≡ b → Names-left m xs (not_granted m xs) → Names-left m (x ∷ xs) (cond b (not_granted m xs) (x ∷ not_granted m xs))
+      go : (b : Bool) → m.granted? x ≡ b → NamesLeft m xs (not_granted m xs) → NamesLeft m (x ∷ xs) (cond b (not_granted m xs) (x ∷ not_granted m xs))
       go true e p = record { old = λ y q. here y (among y xs) (p.old y q); granted = λ y q r. gone y q r (eqb x y) refl }
         where
           here : (y : ℕ) (b : Bool) → b ≡ true → cond (eqb x y) true b ≡ true

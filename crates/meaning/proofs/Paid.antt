@@ -12,7 +12,7 @@ use Rattle.meaning.specs.Fold.Folded.{Folded, folded, unchanged, plus_changes}
 use Rattle.meaning.specs.Fold.Block.{Parent, loop_parent, block_parent, consequent_parent, label_parent, other_parent}
 use Rattle.meaning.specs.Pass.{size, size_list, fold, fold_after, pass, pass_list, pass_cases, pass_body, Settles, rests, again}
 use Rattle.meaning.specs.Step.{step_inside, step_list, step_cases, step_body}
-use Rattle.meaning.specs.ChangeLaws.{Pays, Pays-script, FoldPays, StepPays, PassPays, SettlePays, SettleEnds, SettleUnique, Quiet, SettledQuiet}
+use Rattle.meaning.specs.ChangeLaws.{Pays, PaysScript, FoldPays, StepPays, PassPays, SettlePays, SettleEnds, SettleUnique, Quiet, SettledQuiet}
 use Rattle.meaning.proofs.Measure.{Scale, own, measure_start, measure, measure_list, measure_cases}
 use Rattle.meaning.proofs.Scales.{by_weight, by_words, weight_is, weight_list_is, words_is, words_list_is}
 use Rattle.meaning.proofs.Bound.{Bound, bound_same, zero_left, zero_right}
@@ -133,7 +133,7 @@ in_statement s t n p q = record {
   same_none = λ e. let a : measure by_weight t + n ≤ measure by_weight s = p.0 in let b : measure by_weight t ≡ measure by_weight s = ap (measure by_weight) e in omega arith;
 }
 
-in_script : (s t : Statements) (n : ℕ) → L by_weight s t n → L by_words s t n → Pays-script s t n
+in_script : (s t : Statements) (n : ℕ) → L by_weight s t n → L by_words s t n → PaysScript s t n
 in_script s t n p q = record {
   weight_falls = let a : measure_list by_weight t + n ≤ measure_list by_weight s = p.0 in let b : measure_list by_weight t ≡ weight_list t = weight_list_is t in let c : measure_list by_weight s ≡ weight_list s = weight_list_is s in omega arith;
   words_never_grow = let a : measure_list by_words t + 0 ≤ measure_list by_words s = q.0 in let b : measure_list by_words t ≡ length (encode_list t) = words_list_is t in let c : measure_list by_words s ≡ length (encode_list s) = words_list_is s in omega arith;
@@ -154,7 +154,7 @@ pass_pays m law dropped ss = in_script ss _ _
     (pass_list_law m dropped (R by_weight) (L by_weight) (C by_weight) (closed by_weight) (fold_law by_weight m law dropped) block_parent ss)
     (pass_list_law m dropped (R by_words) (L by_words) (C by_words) (closed by_words) (fold_law by_words m law dropped) block_parent ss)
 
-script_chain : (s t u : Statements) (n k : ℕ) → Pays-script s t n → Pays-script t u k → Pays-script s u (n + k)
+script_chain : (s t u : Statements) (n k : ℕ) → PaysScript s t n → PaysScript t u k → PaysScript s u (n + k)
 script_chain s t u n k p q = record {
   weight_falls = let a : weight_body t + n ≤ weight_body s = p.weight_falls in let b : weight_body u + k ≤ weight_body t = q.weight_falls in omega arith;
   words_never_grow = let a : length (encode_body t) ≤ length (encode_body s) = p.words_never_grow in let b : length (encode_body u) ≤ length (encode_body t) = q.words_never_grow in omega arith;
@@ -162,13 +162,13 @@ script_chain s t u n k p q = record {
   same_none = λ e. let a : weight_body t + n ≤ weight_body s = p.weight_falls in let b : weight_body u + k ≤ weight_body t = q.weight_falls in let c : weight_body u ≡ weight_body s = ap weight_body e in omega arith;
 }
 
-script_same : (s : Statements) → Pays-script s s 0
+script_same : (s : Statements) → PaysScript s s 0
 script_same s = record { weight_falls = omega arith; words_never_grow = omega arith; none_same = λ r. refl; same_none = λ e. refl }
 
 pub settle_pays : SettlePays
 settle_pays m law dropped ss ts n (rests us e) = script_same us
 settle_pays m law dropped ss ts n (again us vs l k e r) =
-    let p : Pays-script us (pass_body m dropped us).result (suc k) = (let P : ℕ → Type 0 = λ j. Pays-script us (pass_body m dropped us).result j in subst P e (pass_pays m law dropped us)) in
+    let p : PaysScript us (pass_body m dropped us).result (suc k) = (let P : ℕ → Type 0 = λ j. PaysScript us (pass_body m dropped us).result j in subst P e (pass_pays m law dropped us)) in
     script_chain us (pass_body m dropped us).result vs (suc k) l p (settle_pays m law dropped (pass_body m dropped us).result vs l r)
 
 -- weight bounds the passes

@@ -19,7 +19,7 @@ pub record Pays (before after : Statement) (n : ℕ) : Type 0 where
   pub same_none : after ≡ before → n ≡ 0
 
 -- the same for a script
-pub record Pays-script (before after : Statements) (n : ℕ) : Type 0 where
+pub record PaysScript (before after : Statements) (n : ℕ) : Type 0 where
   pub weight_falls : weight_body after + n ≤ weight_body before
   pub words_never_grow : length (encode_body after) ≤ length (encode_body before)
   pub none_same : n ≡ 0 → after ≡ before
@@ -29,13 +29,13 @@ abbrev pub FoldPays : Type 0
 FoldPays = (m : Model) → Lawful m → (dropped : List ℕ) (p : Parent) (s : Statement) → Pays s (fold m dropped p s).result (fold m dropped p s).changes
 
 abbrev pub StepPays : Type 0
-StepPays = (m : Model) → Lawful m → (dropped : List ℕ) (place : ℕ) (ss : Statements) → Pays-script ss (step_body m dropped place ss).result (step_body m dropped place ss).changes
+StepPays = (m : Model) → Lawful m → (dropped : List ℕ) (place : ℕ) (ss : Statements) → PaysScript ss (step_body m dropped place ss).result (step_body m dropped place ss).changes
 
 abbrev pub PassPays : Type 0
-PassPays = (m : Model) → Lawful m → (dropped : List ℕ) (ss : Statements) → Pays-script ss (pass_body m dropped ss).result (pass_body m dropped ss).changes
+PassPays = (m : Model) → Lawful m → (dropped : List ℕ) (ss : Statements) → PaysScript ss (pass_body m dropped ss).result (pass_body m dropped ss).changes
 
 abbrev pub SettlePays : Type 0
-SettlePays = (m : Model) → Lawful m → (dropped : List ℕ) (ss ts : Statements) (n : ℕ) → Settles m dropped ss ts n → Pays-script ss ts n
+SettlePays = (m : Model) → Lawful m → (dropped : List ℕ) (ss ts : Statements) (n : ℕ) → Settles m dropped ss ts n → PaysScript ss ts n
 
 -- every script settles, at one script and with one number of changes
 abbrev pub SettleEnds : Type 0

@@ -55,18 +55,18 @@ abbrev pub SettleKeepsRun : Type 0
 SettleKeepsRun = (m : Model) → Lawful m → (ss ts : Statements) (n : ℕ) → Settles m [] ss ts n → KeepsRun m ss ts
 
 -- names after are among those before, and names gone are granted
-pub record Names-left (m : Model) (before after : List ℕ) : Type 0 where
+pub record NamesLeft (m : Model) (before after : List ℕ) : Type 0 where
   pub old : (x : ℕ) → among x after ≡ true → among x before ≡ true
   pub granted : (x : ℕ) → among x before ≡ true → among x after ≡ false → m.granted? x ≡ true
 
 abbrev pub FoldKeepsNames : Type 0
-FoldKeepsNames = (m : Model) (p : Parent) (s : Statement) → Names-left m (keep_var s) (keep_var (fold m [] p s).result)
+FoldKeepsNames = (m : Model) (p : Parent) (s : Statement) → NamesLeft m (keep_var s) (keep_var (fold m [] p s).result)
 
 abbrev pub StepKeepsNames : Type 0
-StepKeepsNames = (m : Model) (place : ℕ) (ss : Statements) → Names-left m (keep_list ss) (keep_list (step_body m [] place ss).result)
+StepKeepsNames = (m : Model) (place : ℕ) (ss : Statements) → NamesLeft m (keep_list ss) (keep_list (step_body m [] place ss).result)
 
 abbrev pub PassKeepsNames : Type 0
-PassKeepsNames = (m : Model) (ss : Statements) → Names-left m (keep_list ss) (keep_list (pass_body m [] ss).result)
+PassKeepsNames = (m : Model) (ss : Statements) → NamesLeft m (keep_list ss) (keep_list (pass_body m [] ss).result)
 
 abbrev pub SettleKeepsNames : Type 0
-SettleKeepsNames = (m : Model) (ss ts : Statements) (n : ℕ) → Settles m [] ss ts n → Names-left m (keep_list ss) (keep_list ts)
+SettleKeepsNames = (m : Model) (ss ts : Statements) (n : ℕ) → Settles m [] ss ts n → NamesLeft m (keep_list ss) (keep_list ts)

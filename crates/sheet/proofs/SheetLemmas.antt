@@ -18,7 +18,7 @@ use Rattle.host.specs.Model.{Value}
 use Rattle.values.specs.SheetValues.{language, boolean_value, listed, sheet_meaning}
 use Rattle.sheet.specs.SheetRows.{sheet_row_of, sheet_row_at, is_comparable, operand_allowed, kind_allowed, is_whole, literal_of_whole, sheet_row_allowed, sheet_refused}
 use Rattle.sheet.specs.SheetModel.{Expression, unknown_expression, entry_expression, false_expression, falsehood, equal_expression, known_equality, expression_of, sheet_expression, EachFromItsRow}
-use Rattle.sheet.specs.SheetAnswers.{false-operand, entry_of, compared, end-value, is-command, end-effects, is-literal-row, negate-when, known-truth, Follows}
+use Rattle.sheet.specs.SheetAnswers.{false_operand_lem, entry_of, compared, end_value_lem, is_command_lem, end_effects_lem, is_literal_row_lem, negate_when, known_truth, Follows}
 use Rattle.sheet.specs.SheetLaws.{Before, rows_here, past_rows}
 
 -- what an accepted row says of what it looks at
@@ -150,7 +150,7 @@ module _ (rows : List ℕ) (entries : List SheetValue) (accepted : is_some (shee
   operand_known r (Some (AreEqual p q)) h = absurd (clash h)
   operand_known r (Some Command) h = refl
 
-  operand_effects : (r : ℕ) (row : Option SheetRow) → Fine rows entries r row → is_comparable row ≡ true → is-command row ≡ (expression_of entries at r row).effects
+  operand_effects : (r : ℕ) (row : Option SheetRow) → Fine rows entries r row → is_comparable row ≡ true → is_command_lem row ≡ (expression_of entries at r row).effects
   operand_effects r None fine h = absurd (clash h)
   operand_effects r (Some (Literal n)) fine h = entry_effects true (slice_get entries n) fine
   operand_effects r (Some (Named n)) fine h = entry_effects false (slice_get entries n) fine
@@ -161,10 +161,10 @@ module _ (rows : List ℕ) (entries : List SheetValue) (accepted : is_some (shee
   known_at : (r : ℕ) → is_comparable (sheet_row_at rows r) ≡ true → option_map language (entry_of entries (sheet_row_at rows r)) ≡ (at r).known
   known_at r h = operand_known r (sheet_row_at rows r) h ∙ ap (λ (x : Expression). x.known) (sym (from_row r))
 
-  effects_at : (r : ℕ) → is_comparable (sheet_row_at rows r) ≡ true → is-command (sheet_row_at rows r) ≡ (at r).effects
+  effects_at : (r : ℕ) → is_comparable (sheet_row_at rows r) ≡ true → is_command_lem (sheet_row_at rows r) ≡ (at r).effects
   effects_at r h = operand_effects r (sheet_row_at rows r) (row_fine r) h ∙ ap (λ (x : Expression). x.effects) (sym (from_row r))
 
-  value_of_row : (e : ℕ) (row : Option SheetRow) → Fine rows entries e row → None ≡ false-operand row → option_map language (end-value rows entries row) ≡ (expression_of entries at e row).known
+  value_of_row : (e : ℕ) (row : Option SheetRow) → Fine rows entries e row → None ≡ false_operand_lem row → option_map language (end_value_lem rows entries row) ≡ (expression_of entries at e row).known
   value_of_row e None fine h = refl
   value_of_row e (Some (Literal n)) fine h = entry_known true (slice_get entries n)
   value_of_row e (Some (Named n)) fine h = entry_known false (slice_get entries n)
@@ -175,16 +175,16 @@ module _ (rows : List ℕ) (entries : List SheetValue) (accepted : is_some (shee
       compared_known a b ∙ ap (λ (v : Option LanguageValue). known_equality v (option_map language b)) (known_at r fine.1) ∙ ap (known_equality (at r).known) (known_at s fine.3)
   value_of_row e (Some Command) fine h = refl
 
-  effects_of_row : (e : ℕ) (row : Option SheetRow) → Fine rows entries e row → None ≡ false-operand row → end-effects rows row ≡ (expression_of entries at e row).effects
+  effects_of_row : (e : ℕ) (row : Option SheetRow) → Fine rows entries e row → None ≡ false_operand_lem row → end_effects_lem rows row ≡ (expression_of entries at e row).effects
   effects_of_row e None fine h = refl
   effects_of_row e (Some (Literal n)) fine h = entry_effects true (slice_get entries n) fine
   effects_of_row e (Some (Named n)) fine h = entry_effects false (slice_get entries n) fine
   effects_of_row e (Some (IsFalse n)) fine h = let z : ◌≡◌ {A = ℕ} 0 1 = cc in absurd (omega arith)
   effects_of_row e (Some (AreEqual r s)) fine h =
-      ap (λ (b : Bool). b || is-command (sheet_row_at rows s)) (effects_at r fine.1) ∙ ap (λ (b : Bool). (at r).effects || b) (effects_at s fine.3)
+      ap (λ (b : Bool). b || is_command_lem (sheet_row_at rows s)) (effects_at r fine.1) ∙ ap (λ (b : Bool). (at r).effects || b) (effects_at s fine.3)
   effects_of_row e (Some Command) fine h = refl
 
-  literal_of_row : (e : ℕ) (row : Option SheetRow) → Fine rows entries e row → is-literal-row row ≡ (expression_of entries at e row).literal
+  literal_of_row : (e : ℕ) (row : Option SheetRow) → Fine rows entries e row → is_literal_row_lem row ≡ (expression_of entries at e row).literal
   literal_of_row e None fine = refl
   literal_of_row e (Some (Literal n)) fine = entry_literal true (slice_get entries n) fine
   literal_of_row e (Some (Named n)) fine = entry_literal false (slice_get entries n) fine
@@ -193,17 +193,17 @@ module _ (rows : List ℕ) (entries : List SheetValue) (accepted : is_some (shee
   literal_of_row e (Some Command) fine = refl
 
   -- what the questions look up
-  pub end_known : (e : ℕ) → None ≡ false-operand (sheet_row_at rows e) → option_map language (end-value rows entries (sheet_row_at rows e)) ≡ (at e).known
+  pub end_known : (e : ℕ) → None ≡ false_operand_lem (sheet_row_at rows e) → option_map language (end_value_lem rows entries (sheet_row_at rows e)) ≡ (at e).known
   end_known e h = value_of_row e (sheet_row_at rows e) (row_fine e) h ∙ ap (λ (x : Expression). x.known) (sym (from_row e))
 
-  pub end_acts : (e : ℕ) → None ≡ false-operand (sheet_row_at rows e) → end-effects rows (sheet_row_at rows e) ≡ (at e).effects
+  pub end_acts : (e : ℕ) → None ≡ false_operand_lem (sheet_row_at rows e) → end_effects_lem rows (sheet_row_at rows e) ≡ (at e).effects
   end_acts e h = effects_of_row e (sheet_row_at rows e) (row_fine e) h ∙ ap (λ (x : Expression). x.effects) (sym (from_row e))
 
-  pub literal_at : (e : ℕ) → is-literal-row (sheet_row_at rows e) ≡ (at e).literal
+  pub literal_at : (e : ℕ) → is_literal_row_lem (sheet_row_at rows e) ≡ (at e).literal
   literal_at e = literal_of_row e (sheet_row_at rows e) (row_fine e) ∙ ap (λ (x : Expression). x.literal) (sym (from_row e))
 
   -- one step along a chain
-  false_row : (row : Option SheetRow) (n : ℕ) → Some n ≡ false-operand row → row ≡ Some (IsFalse n)
+  false_row : (row : Option SheetRow) (n : ℕ) → Some n ≡ false_operand_lem row → row ≡ Some (IsFalse n)
   false_row None n h = let z : ◌≡◌ {A = ℕ} 0 1 = cc in absurd (omega arith)
   false_row (Some (Literal m)) n h = let z : ◌≡◌ {A = ℕ} 0 1 = cc in absurd (omega arith)
   false_row (Some (Named m)) n h = let z : ◌≡◌ {A = ℕ} 0 1 = cc in absurd (omega arith)
@@ -214,14 +214,14 @@ module _ (rows : List ℕ) (entries : List SheetValue) (accepted : is_some (shee
   fine_operand : (e n : ℕ) (row : Option SheetRow) → row ≡ Some (IsFalse n) → Fine rows entries e row → n < e
   fine_operand e n row p fine = rw p at fine
 
-  pub operand_earlier : (e n : ℕ) → Some n ≡ false-operand (sheet_row_at rows e) → n < e
+  pub operand_earlier : (e n : ℕ) → Some n ≡ false_operand_lem (sheet_row_at rows e) → n < e
   operand_earlier e n h = fine_operand e n (sheet_row_at rows e) (false_row (sheet_row_at rows e) n h) (row_fine e)
 
-  pub made_false : (e n : ℕ) → Some n ≡ false-operand (sheet_row_at rows e) → at e ≡ false_expression (at n)
+  pub made_false : (e n : ℕ) → Some n ≡ false_operand_lem (sheet_row_at rows e) → at e ≡ false_expression (at n)
   made_false e n h = from_row e ∙ ap (expression_of entries at e) (false_row (sheet_row_at rows e) n h)
 
 -- truths through 'is false'
-negate_twice : (b : Bool) (v : Option LanguageValue) → option_map (negate-when b) (option_map to_boolean (option_map falsehood v)) ≡ option_map (negate-when (not b)) (option_map to_boolean v)
+negate_twice : (b : Bool) (v : Option LanguageValue) → option_map (negate_when b) (option_map to_boolean (option_map falsehood v)) ≡ option_map (negate_when (not b)) (option_map to_boolean v)
 negate_twice b None = refl
 negate_twice true (Some v) = ap (λ (t : Bool). Some t) (not_not (to_boolean v))
   where
@@ -232,19 +232,19 @@ negate_twice false (Some v) = refl
 
 pub follow_on : (x y z : Expression) (b : Bool) → y ≡ false_expression z → Follows x y b → Follows x z (not b)
 follow_on x y z b p f = record {
-  truth = f.truth ∙ ap (λ (o : Expression). option_map (negate-when b) (known-truth o)) p ∙ negate_twice b z.known;
+  truth = f.truth ∙ ap (λ (o : Expression). option_map (negate_when b) (known_truth o)) p ∙ negate_twice b z.known;
   effects = f.effects ∙ ap (λ (o : Expression). o.effects) p;
 }
 
-not_negated : (o : Option Bool) → o ≡ option_map (negate-when false) o
+not_negated : (o : Option Bool) → o ≡ option_map (negate_when false) o
 not_negated None = refl
 not_negated (Some t) = refl
 
 pub follow_self : (x : Expression) → Follows x x false
-follow_self x = record { truth = not_negated (known-truth x); effects = refl }
+follow_self x = record { truth = not_negated (known_truth x); effects = refl }
 
 -- the truth and the value that the questions answer
-pub differs : (t n : Bool) → not (beq t n) ≡ negate-when n t
+pub differs : (t n : Bool) → not (beq t n) ≡ negate_when n t
 differs true true = refl
 differs true false = refl
 differs false true = refl
@@ -261,14 +261,14 @@ false_value t (Some v) h =
     ap (λ (u : LanguageValue). Some (listed u)) (boolean_language t ∙ ap boolean same)
 
 module _ (rows : List ℕ) (entries : List SheetValue) (accepted : is_some (sheet_refused rows entries) ≡ false) where
-  pub known_through : (e end : ℕ) (negated : Bool) → Follows (sheet_expression rows entries e) (sheet_expression rows entries end) negated → None ≡ false-operand (sheet_row_at rows end) → (v : Option SheetValue) → v ≡ end-value rows entries (sheet_row_at rows end) → option_map (negate-when negated) (option_map to_boolean (option_map language v)) ≡ known-truth (sheet_expression rows entries e)
+  pub known_through : (e end : ℕ) (negated : Bool) → Follows (sheet_expression rows entries e) (sheet_expression rows entries end) negated → None ≡ false_operand_lem (sheet_row_at rows end) → (v : Option SheetValue) → v ≡ end_value_lem rows entries (sheet_row_at rows end) → option_map (negate_when negated) (option_map to_boolean (option_map language v)) ≡ known_truth (sheet_expression rows entries e)
   known_through e end negated follows ends v p =
-      ap (λ (u : Option SheetValue). option_map (negate-when negated) (option_map to_boolean (option_map language u))) p
-      ∙ ap (λ (k : Option LanguageValue). option_map (negate-when negated) (option_map to_boolean k)) (end_known rows entries accepted end ends)
+      ap (λ (u : Option SheetValue). option_map (negate_when negated) (option_map to_boolean (option_map language u))) p
+      ∙ ap (λ (k : Option LanguageValue). option_map (negate_when negated) (option_map to_boolean k)) (end_known rows entries accepted end ends)
       ∙ sym follows.truth
 
-  pub value_of_false : (e n : ℕ) (t : Bool) → Some n ≡ false-operand (sheet_row_at rows e) → Some t ≡ known-truth (sheet_expression rows entries e) → Some (listed (language (boolean_value t))) ≡ option_map listed (sheet_expression rows entries e).known
+  pub value_of_false : (e n : ℕ) (t : Bool) → Some n ≡ false_operand_lem (sheet_row_at rows e) → Some t ≡ known_truth (sheet_expression rows entries e) → Some (listed (language (boolean_value t))) ≡ option_map listed (sheet_expression rows entries e).known
   value_of_false e n t p q =
       let made = made_false rows entries accepted e n p in
-      false_value t (sheet_expression rows entries n).known (q ∙ ap known-truth made)
+      false_value t (sheet_expression rows entries n).known (q ∙ ap known_truth made)
       ∙ sym (ap (λ (x : Expression). option_map listed x.known) made)

@@ -9,7 +9,7 @@ ghost use Rattle.hosts.specs.RowWord.{answer_of, first_bad, literal_0, literal_1
 ghost use Rattle.sheet.specs.SheetRows.{sheet_row_of, sheet_row_at, operand_allowed, kind_allowed, literal_of_whole, sheet_row_allowed, sheet_refused};
 ghost use Rattle.values.specs.SheetValues.{sheet_meaning, sheet_equal, MeaningsOfValues};
 ghost use Rattle.sheet.specs.SheetModel.{sheet_expression, sheet_model, EachFromItsRow};
-ghost use Rattle.sheet.specs.SheetAnswers.{false-operand, Follows};
+ghost use Rattle.sheet.specs.SheetAnswers.{false_operand_lem, Follows};
 ghost use Rattle.sheet.specs.SheetLaws.{sheet_lawful};
 
 use crate::literals::Literals;
@@ -161,7 +161,7 @@ impl<'a> Sheet<'a> {
     // Follows 'is false' rows from an expression to the first row that is none: each operand is an earlier row.
     fn chain(&self, e: u32) -> Chain
         ensures follows { Follows (sheet_expression self.now.rows.now self.now.entries.now e) (sheet_expression self.now.rows.now self.now.entries.now result.end) result.negated }
-        ensures ends { None ≡ false-operand (sheet_row_at self.now.rows.now result.end) }
+        ensures ends { None ≡ false_operand_lem (sheet_row_at self.now.rows.now result.end) }
     {
         let mut end = e;
         let mut negated = false;

@@ -2,7 +2,7 @@
 ghost use Rattle.std.specs.Prelude.{◌≡◌};
 ghost use Rattle.std.specs.List.{slice_get};
 ghost use Rattle.sheet.specs.SheetRows.{sheet_row_of, sheet_row_at};
-ghost use Rattle.sheet.specs.SheetAnswers.{false-operand, entry_of, compared, end-value, is-command, end-effects, is-literal-row};
+ghost use Rattle.sheet.specs.SheetAnswers.{false_operand_lem, entry_of, compared, end_value_lem, is_command_lem, end_effects_lem, is_literal_row_lem};
 
 use hosts::row_word::NUMBER_LIMIT;
 use values::sheet_value::SheetValue;
@@ -64,7 +64,7 @@ pub(crate) fn entry_at(entries: &[SheetValue], n: u32) -> Option<SheetValue>
 
 // The operand of an 'is false' row.
 pub(crate) fn false_operand(rows: &[u32], e: u32) -> Option<u32>
-    ensures { result ≡ false-operand (sheet_row_at rows.now e) }
+    ensures { result ≡ false_operand_lem (sheet_row_at rows.now e) }
 {
     match row_of_expression(rows, e) {
         Some(SheetRow::IsFalse(n)) => Some(n),
@@ -105,7 +105,7 @@ pub(crate) fn compared(a: Option<SheetValue>, b: Option<SheetValue>) -> Option<S
 
 // The known value of a row that is no 'is false' row.
 pub(crate) fn end_value(rows: &[u32], entries: &[SheetValue], e: u32) -> Option<SheetValue>
-    ensures { result ≡ end-value rows.now entries.now (sheet_row_at rows.now e) }
+    ensures { result ≡ end_value_lem rows.now entries.now (sheet_row_at rows.now e) }
 {
     match row_of_expression(rows, e) {
         Some(SheetRow::Literal(n)) => entry_at(entries, n),
@@ -121,7 +121,7 @@ pub(crate) fn end_value(rows: &[u32], entries: &[SheetValue], e: u32) -> Option<
 }
 
 pub(crate) fn is_command(rows: &[u32], e: u32) -> bool
-    ensures { result ≡ is-command (sheet_row_at rows.now e) }
+    ensures { result ≡ is_command_lem (sheet_row_at rows.now e) }
 {
     match row_of_expression(rows, e) {
         Some(SheetRow::Literal(_)) => false,
@@ -135,7 +135,7 @@ pub(crate) fn is_command(rows: &[u32], e: u32) -> bool
 
 // Whether a row that is no 'is false' row has effects.
 pub(crate) fn end_effects(rows: &[u32], e: u32) -> bool
-    ensures { result ≡ end-effects rows.now (sheet_row_at rows.now e) }
+    ensures { result ≡ end_effects_lem rows.now (sheet_row_at rows.now e) }
 {
     match row_of_expression(rows, e) {
         Some(SheetRow::Literal(_)) => false,
@@ -148,7 +148,7 @@ pub(crate) fn end_effects(rows: &[u32], e: u32) -> bool
 }
 
 pub(crate) fn is_literal_row(rows: &[u32], e: u32) -> bool
-    ensures { result ≡ is-literal-row (sheet_row_at rows.now e) }
+    ensures { result ≡ is_literal_row_lem (sheet_row_at rows.now e) }
 {
     match row_of_expression(rows, e) {
         Some(SheetRow::Literal(_)) => true,

@@ -8,7 +8,7 @@ use Rattle.words.specs.Tree.{Statement, Empty, Break, Continue, Block, Expr, Thr
 use Rattle.words.specs.Tree.{Statements, none, some, Let, Cases, no_case, case}
 use Rattle.slices.specs.Among.{among}
 use Rattle.meaning.specs.Run.{let_names_cases}
-use Rattle.meaning.specs.FoldLaws.{Names-left}
+use Rattle.meaning.specs.FoldLaws.{NamesLeft}
 use Rattle.meaning.specs.Fold.Folded.{Folded, folded, unchanged, changed, if_so, plus_changes}
 use Rattle.meaning.specs.Fold.KeepVar.{keep_var, keep_list, keep_cases, stub_list}
 use Rattle.meaning.specs.Fold.IsTerminated.{is_terminated_list}
@@ -180,21 +180,21 @@ module _ (m : Model) where
   selected_names (default k) cs x = ap (among x) (alone None _ ∙ keep_lead (kept_tests m false true (before k) cs) _) ∙ kept_alike (before k) cs x
   selected_names missing cs x = ap (among x) (alone _ _) ∙ kept_alike past cs x
 
-  entry_names : (o : Option Entry) (cs : Cases) → Names-left m (keep_cases cs) (keep_cases (select_entry m o cs).result)
+  entry_names : (o : Option Entry) (cs : Cases) → NamesLeft m (keep_cases cs) (keep_cases (select_entry m o cs).result)
   entry_names None cs = left_same m (keep_cases cs)
   entry_names (Some e) cs = left_alike m (keep_cases cs) _ (selected_names e cs)
 
-  value_names : (x : Option (List ℕ)) (cs : Cases) → Names-left m (keep_cases cs) (keep_cases (select_value m x cs).result)
+  value_names : (x : Option (List ℕ)) (cs : Cases) → NamesLeft m (keep_cases cs) (keep_cases (select_value m x cs).result)
   value_names None cs = left_same m (keep_cases cs)
   value_names (Some v) cs = entry_names (entry_of m v cs) cs
 
-  select_names : (e : Expression) (cs : Cases) → Names-left m (keep_cases cs) (keep_cases (drop_unreachable_switch_cases m e cs).result)
+  select_names : (e : Expression) (cs : Cases) → NamesLeft m (keep_cases cs) (keep_cases (drop_unreachable_switch_cases m e cs).result)
   select_names e cs = go (is_several cs && is_none (let_names_cases cs))
     where
-      go : (b : Bool) → Names-left m (keep_cases cs) (keep_cases (cond b (select_value m (value_of m (parts_of e)) cs) (unchanged cs)).result)
+      go : (b : Bool) → NamesLeft m (keep_cases cs) (keep_cases (cond b (select_value m (value_of m (parts_of e)) cs) (unchanged cs)).result)
       go true = value_names (value_of m (parts_of e)) cs
       go false = left_same m (keep_cases cs)
 
-  pub switch_names : (e : Expression) (cs : Cases) → Names-left m (keep_cases cs) (keep_var (fold_switch m e cs).result)
+  pub switch_names : (e : Expression) (cs : Cases) → NamesLeft m (keep_cases cs) (keep_var (fold_switch m e cs).result)
   switch_names e cs = left_chain m _ _ _ (select_names e cs)
       (left_eq m _ _ (finish_names e (without_empty m (drop_unreachable_switch_cases m e cs).result) ∙ empty_names (drop_unreachable_switch_cases m e cs).result (cases_from_default (drop_unreachable_switch_cases m e cs).result)))

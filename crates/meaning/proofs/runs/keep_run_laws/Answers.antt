@@ -7,9 +7,9 @@ use Rattle.meaning.proofs.runs.keep_run_laws.Goals as goal
 pub returns : goal.returns
 returns c = record {
   rounds = rounds_never_grow;
-  while-again = while_unrolls;
-  do-again = do_unrolls;
-  for-again = λ m. (for_unrolls_plain m, for_unrolls_renewed m);
+  while_again = while_unrolls;
+  do_again = do_unrolls;
+  for_again = λ m. (for_unrolls_plain m, for_unrolls_renewed m);
   terminated = terminated_never_normal;
   accepted = accepted_ends;
 }

@@ -3,7 +3,7 @@ use Rattle.std.specs.Option.{option_map}
 use Rattle.values.specs.declared.sheet_value.SheetValue.{SheetValue}
 use Rattle.values.specs.SheetValues.{language, listed, sheet_meaning}
 use Rattle.sheet.specs.SheetRows.{sheet_row_at}
-use Rattle.sheet.specs.SheetAnswers.{end_value}
+use Rattle.sheet.specs.SheetAnswers.{end_value_lem}
 use Rattle.sheet.proofs.SheetLemmas.{value_of_false, meaning_known, end_known}
 use Rattle.sheet.proofs.Sheet.known_value.Goals as goal
 
@@ -17,5 +17,5 @@ pub returns-in-None : goal.returns-in-None
 returns-in-None c =
     let h = c.args.self.now in
     ap (option_map sheet_meaning) c.end_value.ensures
-    ∙ meaning_known (end_value h.rows.now h.entries.now (sheet_row_at h.rows.now c.args.e))
+    ∙ meaning_known (end_value_lem h.rows.now h.entries.now (sheet_row_at h.rows.now c.args.e))
     ∙ ap (option_map listed) (end_known h.rows.now h.entries.now h.accepted c.args.e c.in-None.ensures)
