@@ -1,57 +1,38 @@
-// Loads a script of a test's own, and compares what comes of it.
+// Loads a script of the test's own, with as much space and as many working words as it needs unless told otherwise.
 use calls::load::load;
 use calls::record::Record;
 use faults::call::CallFault;
 use refusals::refusal::{Layer, Refusal};
 use rows::Rows;
-use std::alloc::{AllocError, Global};
+use std::alloc::Global;
 use std::process::Abort;
 use std::test::Fail;
 use words::word::{Kind, NUMBER_LIMIT};
 
-// What load makes of a script: a record with this weight, or a refusal by number, layer and place.
-#[derive(Clone, Copy)]
-pub(crate) enum Expected {
-    Weighs(u32),
-    Refused(u32, Layer, usize),
-}
-
-// The lengths that load is given and lent.
-#[derive(Clone, Copy)]
-pub(crate) struct Lengths {
-    pub(crate) used: usize,
-    pub(crate) working: usize,
-    pub(crate) labels: usize,
-}
-
 // A word that no test's script has, to see which words were written.
 const MARK: u32 = 77;
 
-// The words of these kinds and numbers.
-pub(crate) fn written(heap: Global, words: &[(Kind, u32)]) -> Result<Vec<u32>, AllocError> {
-    let mut script = Vec::new(heap);
-    for (kind, number) in words {
-        let word = kind.code().wrapping_mul(NUMBER_LIMIT).wrapping_add(*number);
-        script.push(word)?;
-    }
-    Ok(script)
+pub(crate) fn word(kind: Kind, number: u32) -> u32 {
+    kind.code().wrapping_mul(NUMBER_LIMIT).wrapping_add(number)
 }
 
-// A load on a copy of the script, and whether it left space and working words as its answer says.
-fn load_lent(
+// A load on a copy of the script, and whether it left all working words as its answer says.
+pub(crate) fn load_lent(
     rt: &impl Abort,
     heap: Global,
     script: &[u32],
-    lengths: Lengths,
+    used: usize,
+    working: usize,
+    labels: usize,
 ) -> Result<Result<Record, CallFault>, Fail> {
     let host = Rows::least();
     let mut space = script.to_vec(heap)?;
-    let mut room = vec![in heap; MARK; lengths.working]?;
-    let dropped = vec![in heap; 0u32; lengths.labels]?;
+    let mut room = vec![in heap; MARK; working]?;
+    let dropped = vec![in heap; 0u32; labels]?;
     let answer = load(
         &host,
         space.as_mut_slice(),
-        lengths.used,
+        used,
         room.as_mut_slice(),
         dropped.as_slice(),
     );
@@ -63,22 +44,36 @@ fn load_lent(
     Ok(answer)
 }
 
-// That a load with these lengths comes to what is expected.
-pub(crate) fn expect(
+pub(crate) fn load_all(
     rt: &impl Abort,
     heap: Global,
     script: &[u32],
-    lengths: Lengths,
-    expected: Expected,
-) -> Result<(), Fail> {
-    match (load_lent(rt, heap, script, lengths)?, expected) {
-        (Ok(record), Expected::Weighs(weight)) => {
-            assert_eq!(rt; record.used as usize, lengths.used);
-            assert_eq!(rt; record.weight, weight);
-            assert_eq!(rt; record.changes, 0);
-            Ok(())
+) -> Result<Result<Record, CallFault>, Fail> {
+    let used = script.len();
+    load_lent(rt, heap, script, used, used.saturating_mul(4), 0)
+}
+
+pub(crate) fn accepted(rt: &impl Abort, answer: Result<Record, CallFault>) -> Result<Record, Fail> {
+    match answer {
+        Ok(record) => Ok(record),
+        Err(fault) => {
+            let number = fault.refusal().number;
+            assert_eq!(rt; number, 0);
+            Err(Fail::new("refused"))
         }
-        (Err(fault), Expected::Refused(number, layer, place)) => {
+    }
+}
+
+pub(crate) fn refused(
+    rt: &impl Abort,
+    answer: Result<Record, CallFault>,
+    number: u32,
+    layer: Layer,
+    place: usize,
+) -> Result<(), Fail> {
+    match answer {
+        Ok(_) => Err(Fail::new("accepted")),
+        Err(fault) => {
             assert_eq!(rt;
                 fault.refusal(),
                 Refusal {
@@ -89,29 +84,5 @@ pub(crate) fn expect(
             );
             Ok(())
         },
-        (Ok(_), Expected::Refused(number, _, _)) => {
-            assert_eq!(rt; 0, number);
-            Ok(())
-        },
-        (Err(fault), Expected::Weighs(_)) => {
-            assert_eq!(rt; fault.refusal().number, 0);
-            Ok(())
-        },
     }
-}
-
-// The same, with as much lent as the script needs.
-pub(crate) fn expect_all(
-    rt: &impl Abort,
-    heap: Global,
-    script: &[u32],
-    expected: Expected,
-) -> Result<(), Fail> {
-    let used = script.len();
-    let lengths = Lengths {
-        used,
-        working: used.saturating_mul(4),
-        labels: 0,
-    };
-    expect(rt, heap, script, lengths, expected)
 }

@@ -7,12 +7,14 @@ ghost use Rattle.sheet.specs.SheetModel.{largest_answer_lem};
 ghost use Rattle.hosts_tests.specs.Examples.{Examples};
 
 #[cfg(test)]
-use hosts::row_word::NUMBER_LIMIT;
-#[cfg(test)]
 use refusals::host::HostFault;
 
 #[cfg(test)]
-mod rows;
+mod row_host;
+#[cfg(test)]
+mod row_tables;
+#[cfg(test)]
+mod sheet_tables;
 #[cfg(test)]
 mod sheet_values;
 #[cfg(test)]
@@ -35,7 +37,7 @@ pub fn largest_answer() -> i32
 // A row word.
 #[cfg(test)]
 fn word(kind: u32, number: u32) -> u32 {
-    kind.wrapping_mul(NUMBER_LIMIT).wrapping_add(number)
+    kind.wrapping_mul(134217728).wrapping_add(number)
 }
 
 // How many rows are tried, the answer, and how many expressions the host has then.

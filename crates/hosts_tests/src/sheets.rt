@@ -1,5 +1,5 @@
 // The sheet host.
-use crate::{COUNTS, word};
+use crate::word;
 use host::Host;
 use refusals::host::HostFault;
 use sheet::Sheet;
@@ -7,7 +7,7 @@ use sheet::literals::Literals;
 use std::test::Fail;
 use values::sheet_value::SheetValue;
 
-const ENTRIES: [SheetValue; 4] = [
+pub(crate) const ENTRIES: [SheetValue; 4] = [
     SheetValue::Number(0),
     SheetValue::Number(1),
     SheetValue::MinusZero,
@@ -15,7 +15,7 @@ const ENTRIES: [SheetValue; 4] = [
 ];
 
 // The least sheet, and in its place the sheet of these rows, entries and granted names.
-fn make<'a>(
+pub(crate) fn make<'a>(
     literals: &'a Literals,
     rows: &'a [u32],
     entries: &'a [SheetValue],
@@ -43,14 +43,20 @@ fn row_counts(rt: HostRuntime) {
     let mut rows = [word(5, 9); 4097];
     rows[0] = word(1, 0);
     rows[1] = word(1, 1);
-    for (length, answer, count) in COUNTS {
-        let tried = rows.get(0..length).unwrap_or(&[]);
-        let (made, host) = make(&literals, tried, &entries, &[]);
-        assert_eq!(rt; made, answer);
-        assert_eq!(rt; host.count(), count);
-        let last = host.count().saturating_sub(1);
-        assert!(rt; host.effects(last) == (count > 2));
-    }
+    let (made, host) = make(&literals, &rows[0..1], &entries, &[]);
+    assert_eq!(rt; made, Err(HostFault::RowCount(1)));
+    assert_eq!(rt; host.count(), 2);
+    let (made, host) = make(&literals, &rows[0..2], &entries, &[]);
+    assert_eq!(rt; made, Ok(()));
+    assert_eq!(rt; host.count(), 2);
+    let (made, host) = make(&literals, &rows[0..4096], &entries, &[]);
+    assert_eq!(rt; made, Ok(()));
+    assert_eq!(rt; host.count(), 4096);
+    assert!(rt; host.effects(4095));
+    assert!(rt; host.value(4095).is_none());
+    let (made, host) = make(&literals, &rows, &entries, &[]);
+    assert_eq!(rt; made, Err(HostFault::RowCount(4097)));
+    assert_eq!(rt; host.count(), 2);
 }
 
 // Makes a sheet that grants 8, and then tries other rows in its place.
@@ -181,40 +187,34 @@ fn questions(rt: HostRuntime) {
     ];
     let (made, host) = make(&literals, &rows, &entries, &[]);
     assert_eq!(rt; made, Ok(()));
-    // truth, whether a value is known, effects, literal
+    // truth, effects, literal
     let table = [
-        (Some(false), true, false, true),
-        (Some(true), true, false, true),
-        (Some(false), true, false, false),
-        (None, false, true, false),
-        (Some(true), true, false, false),
-        (None, false, true, false),
-        (Some(true), true, false, false),
-        (None, false, true, false),
-        (Some(false), true, false, false),
-        (None, false, true, false),
+        (Some(false), false, true),
+        (Some(true), false, true),
+        (Some(false), false, false),
+        (None, true, false),
+        (Some(true), false, false),
+        (None, true, false),
+        (Some(true), false, false),
+        (None, true, false),
+        (Some(false), false, false),
+        (None, true, false),
     ];
-    for (e, expected) in table.iter().enumerate() {
-        let e = e as u32;
-        let answers = (
-            host.truth(e),
-            host.value(e).is_some(),
-            host.effects(e),
-            host.literal(e),
-        );
-        assert_eq!(rt; answers, *expected);
+    let mut e = 0u32;
+    for (truth, effects, literal) in table {
+        assert_eq!(rt; host.truth(e), truth);
+        assert_eq!(rt; host.value(e).is_some(), truth.is_some());
+        assert_eq!(rt; host.effects(e), effects);
+        assert_eq!(rt; host.literal(e), literal);
+        e = e.wrapping_add(1);
     }
-    for (e, value) in [
-        (2, SheetValue::Number(0)),
-        (6, SheetValue::Yes),
-        (8, SheetValue::No),
-    ] {
-        assert!(rt; has_value(&host, e, value));
-    }
+    assert!(rt; has_value(&host, 2, SheetValue::Number(0)));
+    assert!(rt; has_value(&host, 6, SheetValue::Yes));
+    assert!(rt; has_value(&host, 8, SheetValue::No));
 }
 
 // Whether an expression has a known value that is strictly equal to this one.
-fn has_value(host: &Sheet<'_>, e: u32, value: SheetValue) -> bool {
+pub(crate) fn has_value(host: &Sheet<'_>, e: u32, value: SheetValue) -> bool {
     match host.value(e) {
         Some(known) => host.same(&known, &value),
         None => false,

@@ -1,14 +1,10 @@
-// The row host.
+// The row host, by tables of rows and answers.
+use crate::row_host::SAMPLE;
 use crate::{COUNTS, word};
 use host::Host;
 use refusals::host::HostFault;
 use refusals::refusal::{Layer, Refusal};
 use rows::Rows;
-
-// A row of each kind after the literals 0 and 1.
-const SAMPLE: [u32; 7] = [
-    134217728, 134217729, 134217732, 268435461, 402653190, 536870919, 671088648,
-];
 
 // The least row host, and in its place the host of these rows and granted names.
 fn make<'a>(rows: &'a [u32], names: &'a [u32]) -> (Result<(), HostFault>, Rows<'a>) {
@@ -30,26 +26,6 @@ fn row_counts(rt: HostRuntime) {
         let last = host.count().saturating_sub(1);
         assert!(rt; host.value(last).is_some());
         assert_eq!(rt; host.value(count), None);
-    }
-}
-
-// Kinds 0 and 6 to 31 are refused at their row, and the host found before is still there.
-#[test]
-fn bad_kinds(rt: HostRuntime) {
-    for kind in 0..32u32 {
-        let mut bad = SAMPLE;
-        bad[4] = word(kind, 3);
-        let mut host = Rows::least();
-        assert_eq!(rt; host.make(&SAMPLE, &[8]), Ok(()));
-        let made = host.make(&bad, &[]);
-        if kind >= 1 && kind <= 5 {
-            assert_eq!(rt; made, Ok(()));
-            assert!(rt; !host.granted(8));
-        } else {
-            assert_eq!(rt; made, Err(HostFault::Row(4)));
-            assert_eq!(rt; host.value(4), Some(6));
-            assert!(rt; host.granted(8));
-        }
     }
 }
 
@@ -113,17 +89,4 @@ fn questions(rt: HostRuntime) {
         assert_eq!(rt; answers, *expected);
     }
     assert!(rt; host.same(&4, &4) && !host.same(&4, &5));
-}
-
-#[test]
-fn granted_names(rt: HostRuntime) {
-    let mut names = [7u32; 5000];
-    names[4999] = 4294967295;
-    let rows = SAMPLE;
-    let (_, host) = make(&rows, &names);
-    assert!(rt; host.granted(7));
-    assert!(rt; host.granted(4294967295));
-    assert!(rt; !host.granted(8));
-    let (_, none) = make(&rows, &names[0..0]);
-    assert!(rt; !none.granted(7));
 }
