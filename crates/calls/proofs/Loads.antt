@@ -1,5 +1,5 @@
 -- The laws of load, from those of the checker and of the weight.
-use Rattle.std.proofs.Common.{◌≡◌, ℕ, ◌*◌, Bool, true, false, cond, ◌||◌, eqb, ltb, List, ◌∷◌, ◌++◌, map, length, take, Ok, Err, Result, sym, refl, ap, ◌∙◌, ap₂, arith}
+use Rattle.std.proofs.Common.{◌≡◌, ℕ, ◌*◌, Bool, true, false, cond, ◌||◌, eqb, ltb, List, map, length, take, Ok, Err, Result, refl, ap, ◌∙◌, ap₂, arith}
 use Rattle.words.specs.Words.{read_word}
 use Rattle.words.specs.Words.{max_words}
 use Rattle.scan.specs.Weight.{weight_words}
@@ -10,7 +10,7 @@ use Rattle.checker.proofs.Lawful.{laws}
 use Rattle.faults.specs.declared.call.CallFault.{CallFault}
 use Rattle.faults.specs.declared.call.CallFault.TheVariants.{Used, TooLong, WorkingWords, Labels, Tree}
 use Rattle.calls.specs.declared.record.Record.{Record}
-use Rattle.calls.specs.Load.{working_share, most_labels, lengths_refused, script_words, checked, recorded, new_record, load_answer}
+use Rattle.calls.specs.Load.{working_share, most_labels, lengths_refused, script_words, checked, recorded, new_record}
 use Rattle.calls.specs.LoadLaws.{LoadLaws}
 
 -- an accepted load had the right lengths and an accepting verdict

@@ -1,5 +1,5 @@
 -- What a load answers: the first refusal that holds, in the order of their numbers, or a new record.
-use Rattle.std.specs.Prelude.{ℕ, ◌*◌, Bool, true, false, cond, ◌||◌, List, map, length, take, Ok, Err, Result, ◌==◌, nat_lt}
+use Rattle.std.specs.Prelude.{ℕ, ◌*◌, cond, ◌||◌, List, map, length, take, Ok, Err, Result, ◌==◌, nat_lt}
 use Rattle.words.specs.declared.word.Word.{Word}
 use Rattle.words.specs.Words.{read_word, max_words}
 use Rattle.scan.specs.Weight.{weight_words}

@@ -1,5 +1,5 @@
 -- An accepted script is the words of a tree that keeps the rules.
-use Rattle.std.proofs.Common.{◌≡◌, ℕ, suc, ◌+◌, ◌-◌, ◌<◌, ◌≤◌, Bool, true, false, cond, eqb, ltb, leb, ◌⊎◌, List, [], ◌∷◌, ◌++◌, length, Some, None, Ok, Err, sym, refl, ap, ◌∙◌, subst, ap₂, inl, inr, append_assoc, append-nil, arith, ltb-true, eqb-true, le-leb, leb-true}
+use Rattle.std.proofs.Common.{◌≡◌, ℕ, suc, ◌+◌, ◌-◌, ◌<◌, ◌≤◌, Bool, true, false, cond, eqb, leb, ◌⊎◌, List, [], ◌∷◌, ◌++◌, Some, None, Ok, Err, sym, refl, ap, ◌∙◌, subst, ap₂, inl, inr, append_assoc, append-nil, arith, ltb-true, eqb-true, le-leb, leb-true}
 use borrow.Author.Tests.{clash, eqb-false}
 use Rattle.std.proofs.lemmas.Bool.{cases_eq, cases_lt}
 use Rattle.words.specs.declared.word.Kind.{Kind}
@@ -10,15 +10,15 @@ use Rattle.grammar.specs.declared.What.TheVariants as what
 use Rattle.grammar.specs.declared.Surroundings.TheVariants.{Same}
 use Rattle.words.specs.Words.{word, code, kind_of}
 use Rattle.words.specs.Words.{from_to}
-use Rattle.grammar.specs.Format.{admits, after, has_depth_lem, allows, parts, part}
-use Rattle.words.specs.Tree.{Expression, expression, Name, NameInit}
+use Rattle.grammar.specs.Format.{admits, after, allows, parts, part}
+use Rattle.words.specs.Tree.{expression, Name, NameInit}
 use Rattle.words.specs.Encode.{encode_expression, encode_declarators, encode_list}
 use Rattle.words.proofs.Coding.{kind_of_code}
 use Rattle.faults.specs.declared.tree.TreeFault.{TreeFault}
-use Rattle.checker.specs.Check.{Around, Due, Verdict, jumps_well, is_known, not_deep, judge, within, surround, need, part_due, rest_due, next, and_then, check, check_script, start, nowhere, depth_limit}
-use Rattle.checker.specs.Rules.{NotDeep, Script}
-use Rattle.checker.proofs.Items.{by_var, by_let, statement, letting, one_case, OneCatch, All, Tested, joined, Item, words_of, Holds, Besides, Read, One}
-use Rattle.checker.proofs.Parts.{nothing, only, a_list, declarators, a_sequence, after_word, PartsRead, none_read, one_read, two_read}
+use Rattle.checker.specs.Check.{Around, Due, Verdict, jumps_well, is_known, not_deep, judge, within, need, part_due, rest_due, next, and_then, check, check_script, start}
+use Rattle.checker.specs.Rules.{Script}
+use Rattle.checker.proofs.Items.{by_var, by_let, statement, letting, one_case, joined, words_of, Besides, Read, One}
+use Rattle.checker.proofs.Parts.{only, a_list, declarators, a_sequence, after_word, PartsRead, none_read, one_read, two_read}
 use Rattle.checker.proofs.Built.{then, then_two, a_statement}
 
 -- the tests that an accepted word passed

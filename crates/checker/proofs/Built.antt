@@ -1,24 +1,20 @@
 -- A word and its parts are one item of the tree: by the word's kind, in whatever place admits it.
-use Rattle.std.proofs.Common.{◌≡◌, ℕ, zero, suc, ◌+◌, ◌*◌, ◌/◌, ◌%◌, ◌<◌, ◌≤◌, Bool, true, false, cond, not, eqb, ltb, leb, List, [], ◌∷◌, ◌++◌, length, Some, None, Option, sym, refl, ap, ◌∙◌, subst, ap₂, append_assoc, arith, ltb-true, eqb-true, leb-false, leb-true}
-use borrow.Author.Tests.{clash, eqb-false}
+use Rattle.std.proofs.Common.{◌≡◌, ℕ, zero, suc, ◌+◌, ◌*◌, ◌≤◌, Bool, true, false, cond, not, leb, List, ◌∷◌, ◌++◌, sym, refl, ap, ◌∙◌, ap₂, append_assoc, arith, eqb-true, leb-true}
+use borrow.Author.Tests.{clash}
 use Rattle.words.specs.declared.word.Kind.{Kind}
 use Rattle.words.specs.declared.word.Kind.TheVariants as kind
 use Rattle.words.specs.declared.word.Word.{Word}
-use Rattle.grammar.specs.declared.What.{What}
 use Rattle.grammar.specs.declared.What.TheVariants as what
 use Rattle.grammar.specs.declared.Surroundings.TheVariants.{Same, Nested, LoopBody, SwitchCase, LabelBody}
-use Rattle.words.specs.Words.{word, code, kind_of, has, for_expression, for_declaration, for_test, for_update}
-use Rattle.words.specs.Words.{from_to}
-use Rattle.grammar.specs.Format.{admits, after, has_depth_lem, allows, parts, part}
-use Rattle.words.specs.Tree.{Expression, expression, Declarator, Name, NameInit}
-use Rattle.words.specs.Tree.{Statement, Empty, Break, Continue, Block, Expr, Throw, Var, If, IfElse, For, While, Do, Switch, Label, BreakTo, ContinueTo, Return, TryCatch, TryFinally, TryBoth}
-use Rattle.words.specs.Encode.{encode_expression, encode_optional, encode_declarators, encode_start, encode, encode_list, encode_cases, encode_body, encode_catch, flag, for_number}
-use Rattle.words.proofs.Coding.{kind_of_code}
-use Rattle.checker.specs.Check.{Around, jumps_well, is_known, not_deep, within, surround, depth_limit}
+use Rattle.words.specs.Words.{word, has, for_expression, for_declaration, for_test, for_update}
+use Rattle.grammar.specs.Format.{admits, allows, parts, part}
+use Rattle.words.specs.Tree.{Empty, Break, Continue, Block, Expr, Throw, Var, If, IfElse, For, While, Do, Switch, Label, BreakTo, ContinueTo, Return, TryCatch, TryFinally, TryBoth}
+use Rattle.words.specs.Encode.{encode_expression, encode_optional, encode_declarators, encode_start, encode, encode_list, encode_cases, encode_body, encode_catch, for_number}
+use Rattle.checker.specs.Check.{Around, jumps_well, within}
 use Rattle.slices.specs.Among.{among}
-use Rattle.checker.specs.Rules.{NotDeep, inside}
-use Rattle.checker.proofs.Items.{by_var, by_let, statement, letting, one_case, OneCatch, Item, Read, One}
-use Rattle.checker.proofs.Parts.{nothing, only, a_list, the_cases, declarators, a_sequence, optional, tail, a_start, after_word, PartsRead, none_read, one_read, two_read}
+use Rattle.checker.specs.Rules.{NotDeep}
+use Rattle.checker.proofs.Items.{One}
+use Rattle.checker.proofs.Parts.{nothing, only, a_list, the_cases, declarators, optional, tail, a_start, after_word, PartsRead, none_read, one_read, two_read}
 
 first_both : (x y : Bool) → cond x y false ≡ true → x ≡ true
 first_both true y h = refl

@@ -1,18 +1,13 @@
 -- Trees that keep the rules are accepted: a check goes past the words of each part.
-use Rattle.std.proofs.Common.{◌≡◌, ℕ, suc, ◌+◌, ◌-◌, ◌<◌, ◌≤◌, Bool, true, false, cond, not, eqb, ltb, leb, List, [], ◌∷◌, ◌++◌, map, length, Some, None, Ok, Err, Option, sym, refl, ap, ◌∙◌, subst, ap₂, append_assoc, append-nil, arith, length-append, lt-ltb, ne_eqb, le-leb}
-use Rattle.words.specs.declared.word.Kind.{Kind}
-use Rattle.words.specs.declared.word.Kind.TheVariants as kind
+use Rattle.std.proofs.Common.{◌≡◌, ℕ, suc, ◌+◌, ◌-◌, Bool, true, false, cond, List, [], ◌∷◌, ◌++◌, length, Ok, Err, sym, refl, ap, ◌∙◌, ap₂, append_assoc, append-nil, arith, length-append, ne_eqb}
 use Rattle.words.specs.declared.word.Word.{Word}
 use Rattle.grammar.specs.declared.What.{What}
-use Rattle.grammar.specs.declared.What.TheVariants as what
-use Rattle.grammar.specs.declared.Surroundings.{Surroundings}
-use Rattle.words.specs.Words.{word, code}
 use Rattle.grammar.specs.declared.Part.{Part}
 use Rattle.grammar.specs.declared.Parts.{Parts}
 use Rattle.grammar.specs.Format as format
 use Rattle.grammar.specs.Format.{admits, after, has_depth_lem, allows, parts, no_part}
 use Rattle.faults.specs.declared.tree.TreeFault.{TreeFault}
-use Rattle.checker.specs.Check.{Around, Due, Verdict, depth_limit, jumps_well, is_known, not_deep, judge, within, surround, need, part_due, rest_due, next, and_then, check}
+use Rattle.checker.specs.Check.{Around, Due, Verdict, jumps_well, is_known, not_deep, judge, within, surround, need, part_due, rest_due, next, and_then, check}
 
 abbrev pub due : What → ℕ → Around → Due
 due x n a = record { what = x; times = n; around = a }

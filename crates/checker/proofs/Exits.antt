@@ -1,5 +1,5 @@
 -- What the code's step knows, put together.
-use Rattle.std.proofs.Common.{◌≡◌, ℕ, ◌+◌, ◌-◌, ◌*◌, ◌<◌, ◌≤◌, Bool, true, false, cond, ◌⊎◌, List, [], ◌∷◌, ◌++◌, map, reverse, length, get_or, take, drop, IsErrAnd, Ok, Err, Result, sym, refl, ap, ◌∙◌, subst, ap₂, subst₂, inl, inr, arith, MatchResult}
+use Rattle.std.proofs.Common.{◌≡◌, ℕ, ◌+◌, ◌<◌, ◌≤◌, Bool, true, false, cond, ◌⊎◌, List, [], ◌∷◌, ◌++◌, map, reverse, length, get_or, take, drop, IsErrAnd, Ok, Err, Result, sym, refl, ap, ◌∙◌, subst, ap₂, subst₂, inl, inr, arith, MatchResult}
 use Rattle.std.proofs.lemmas.List.{length-reverse, reverse-append}
 use Rattle.std.proofs.lemmas.Bool.{cases_lt}
 use Rattle.bounded.specs.declared.stack.Stack.{Stack}
@@ -14,7 +14,7 @@ use Rattle.faults.specs.declared.tree.ReaderFault.{ReaderFault}
 use Rattle.faults.specs.declared.tree.TreeFault.{TreeFault}
 use Rattle.faults.specs.declared.tree.TreeFault.TheVariants.{Reader}
 use Rattle.checker.specs.Check.{Due, Verdict, judge, is_label_lem, is_loop, check, first_word, no_more}
-use Rattle.checker.specs.Held.{due_in, due_of, dues, relabelled, within_spot, risen, opened, looped, height, Sound, Left, frames_of}
+use Rattle.checker.specs.Held.{due_in, dues, relabelled, within_spot, risen, opened, looped, height, Sound, Left, frames_of}
 use Rattle.encoding.proofs.Loops.{words_more, words_all}
 use Rattle.checker.proofs.Steps.{left_next, left_refused}
 

@@ -1,19 +1,17 @@
 -- How high the frames lie: a stack of 512 frames and two of 102 labels are never full.
-use Rattle.std.proofs.Common.{◌≡◌, ℕ, ◌+◌, ◌-◌, ◌*◌, ◌<◌, ◌≤◌, Bool, true, false, cond, eqb, ltb, leb, List, [], ◌∷◌, ◌++◌, map, length, take, drop, sym, refl, ap, ◌∙◌, subst, ap₂, arith, length-append, leb-true}
+use Rattle.std.proofs.Common.{◌≡◌, ℕ, ◌+◌, ◌*◌, ◌<◌, ◌≤◌, Bool, true, false, cond, eqb, leb, List, [], ◌∷◌, length, refl, arith, leb-true}
 use borrow.Author.Tests.{eqb-false}
 use Rattle.words.specs.declared.word.Kind.{Kind}
 use Rattle.words.specs.declared.word.Kind.TheVariants as kind
-use Rattle.words.specs.declared.word.Word.{Word}
 use Rattle.grammar.specs.declared.What.{What}
 use Rattle.grammar.specs.declared.What.TheVariants.{ListStatement, SingleStatement, ForDeclaration, Declarator, CatchParameter, Expression, SequencePart, Body, Catch, Case, CaseAfterDefault}
 use Rattle.grammar.specs.declared.Surroundings.{Surroundings}
 use Rattle.grammar.specs.declared.Surroundings.TheVariants.{Same, Nested, LoopBody, SwitchCase, LabelBody}
-use Rattle.grammar.specs.declared.Part.{Part}
-use Rattle.words.specs.Words.{code, word, for_expression, for_declaration, for_test, for_update, try_catch, try_finalizer, has}
+use Rattle.words.specs.Words.{word, for_expression, for_declaration, for_test, for_update, try_catch, try_finalizer, has}
 use Rattle.grammar.specs.Format.{admits, has_depth_lem, parts_of, part}
 use Rattle.checker.specs.declared.frame.Spot.{Spot}
 use Rattle.checker.specs.declared.frame.Frame.{Frame}
-use Rattle.checker.specs.Held.{placed, relabelled, within_spot, part_frame, onto, grown, height, Fits, Sound}
+use Rattle.checker.specs.Held.{relabelled, within_spot, part_frame, onto, grown, height, Fits, Sound}
 
 -- what holds of each kind, one by one
 Every : (Kind → Bool) → Type 0

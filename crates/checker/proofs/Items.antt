@@ -1,7 +1,6 @@
 -- What may stand in a place, typed: for each thing due the type of its items, their words and their rules, and how
 -- items are read off words.
-use Rattle.std.proofs.Common.{◌≡◌, ℕ, suc, ◌+◌, ◌-◌, ◌<◌, ◌≤◌, Bool, true, false, cond, eqb, List, [], ◌∷◌, ◌++◌, length, Some, None, Option, sym, refl, ap, ◌∙◌, subst, append_assoc, arith, eqb-true}
-use borrow.Author.Tests.{eqb-false}
+use Rattle.std.proofs.Common.{◌≡◌, ℕ, suc, ◌<◌, List, [], ◌∷◌, ◌++◌, length, Some, None, Option, refl, ap}
 use Rattle.words.specs.declared.word.Kind.TheVariants as kind
 use Rattle.words.specs.declared.word.Word.{Word}
 use Rattle.grammar.specs.declared.What.{What}
@@ -9,7 +8,7 @@ use Rattle.grammar.specs.declared.What.TheVariants as what
 use Rattle.words.specs.Words.{word}
 use Rattle.words.specs.Tree.{Expression, Declarator, Statement, Statements, none, some, Let, Cases, no_case, case}
 use Rattle.words.specs.Encode.{encode_expression, encode_declarator, encode_var, encode_let, encode, encode_list, encode_cases, encode_body, encode_catch, encode_case, count, count_cases}
-use Rattle.checker.specs.Check.{Around, Due, need}
+use Rattle.checker.specs.Check.{Around}
 use Rattle.checker.specs.Rules.{listed, Known, KnownOptional, KnownDeclarator, KnownDeclarators, NoDefault, OneDefault, NotDeep, Keeps, KeepsList, KeepsCases}
 
 -- a Var or a Let with its declarators

@@ -1,23 +1,22 @@
 -- A script that keeps the rules is accepted, constructor by constructor.
-use Rattle.std.proofs.Common.{◌≡◌, ℕ, suc, ◌+◌, ◌<◌, ◌≤◌, Bool, true, false, cond, not, eqb, ltb, leb, List, [], ◌∷◌, ◌++◌, map, length, Some, None, Ok, Err, Option, sym, refl, ap, ◌∙◌, subst, ap₂, append_assoc, append-nil, arith, lt-ltb, le-leb}
+use Rattle.std.proofs.Common.{◌≡◌, ℕ, ◌+◌, ◌<◌, Bool, true, false, cond, not, ltb, leb, List, [], ◌∷◌, ◌++◌, map, length, Some, None, Ok, Option, sym, refl, ap, ◌∙◌, subst, ap₂, append_assoc, append-nil, arith, lt-ltb, le-leb}
 use Rattle.words.specs.declared.word.Kind.{Kind}
 use Rattle.words.specs.declared.word.Kind.TheVariants as kind
 use Rattle.words.specs.declared.word.Word.{Word}
 use Rattle.grammar.specs.declared.What.{What}
 use Rattle.grammar.specs.declared.What.TheVariants as what
 use Rattle.grammar.specs.declared.Surroundings.TheVariants.{Same, Nested, LoopBody, SwitchCase, LabelBody}
-use Rattle.words.specs.Words.{word, code, has, for_expression, for_declaration, for_test, for_update, try_catch, try_finalizer}
-use Rattle.grammar.specs.Format as format
-use Rattle.grammar.specs.Format.{admits, after, has_depth_lem, allows, parts, part}
+use Rattle.words.specs.Words.{word}
+use Rattle.grammar.specs.Format.{admits, has_depth_lem, allows, parts, part}
 use Rattle.words.specs.Tree.{Expression, expression, Declarator, Name, NameInit, Start, no_start, start_expression, start_var, start_let}
 use Rattle.words.specs.Tree.{Statement, Empty, Break, Continue, Block, Expr, Throw, Var, If, IfElse, For, While, Do, Switch, Label, BreakTo, ContinueTo, Return, TryCatch, TryFinally, TryBoth}
 use Rattle.words.specs.Tree.{Statements, none, some, Let, Cases, no_case, case}
-use Rattle.words.specs.Encode.{encode_expression, encode_optional, encode_declarator, encode_declarators, encode_var, encode_let, encode_start, flag, for_number, count, count_cases, catch_head, encode, encode_list, encode_cases, encode_body, encode_catch, encode_case}
+use Rattle.words.specs.Encode.{encode_expression, encode_optional, encode_declarator, encode_declarators, encode_var, encode_let, encode_start, flag, for_number, count, count_cases, encode, encode_list, encode_cases, encode_body, encode_catch, encode_case}
 use Rattle.encoding.proofs.ForNumber.{by_expression, by_declaration, for_has}
-use Rattle.checker.specs.Check.{Around, Due, depth_limit, jumps_well, is_known, not_deep, within, surround, check, start, nowhere, check_script}
+use Rattle.checker.specs.Check.{Around, depth_limit, jumps_well, is_known, not_deep, within, check, nowhere, check_script}
 use Rattle.slices.specs.Among.{among}
-use Rattle.checker.specs.Rules.{inside, loop_body, switch_case, labelled, listed, AllBelow, Known, KnownOptional, KnownDeclarator, KnownDeclarators, KnownStart, NoDefault, OneDefault, NotDeep, Keeps, KeepsList, KeepsCases, Script}
-use Rattle.checker.proofs.Eats.{due, Eats, Done, done, eats_none, eats_join, eats_as, Good, Parted, eats_word, parts_0, parts_1, parts_2, parts_3}
+use Rattle.checker.specs.Rules.{inside, loop_body, listed, AllBelow, Known, KnownOptional, KnownDeclarator, KnownDeclarators, KnownStart, NoDefault, OneDefault, NotDeep, Keeps, KeepsList, KeepsCases, Script}
+use Rattle.checker.proofs.Eats.{Eats, Done, done, eats_none, eats_join, eats_as, Good, Parted, eats_word, parts_0, parts_1, parts_2, parts_3}
 
 -- a statement of a list, or one that stands alone
 abbrev place : Bool → What

@@ -1,12 +1,10 @@
 -- The laws of the checker's verdicts, put together.
-use Rattle.std.proofs.Common.{◌≡◌, ℕ, ◌+◌, List, [], ◌∷◌, ◌++◌, map, length, Err, sym, ap, ◌∙◌, append-nil, arith}
+use Rattle.std.proofs.Common.{◌≡◌, ℕ, List, [], ◌∷◌, ◌++◌, map, length, Err, sym, ap, ◌∙◌, arith}
 use Rattle.std.proofs.lemmas.List.{length-map}
 use Rattle.words.specs.Words.{read_word}
-use Rattle.words.specs.Tree.{Statements}
-use Rattle.words.specs.Encode.{encode_body}
 use Rattle.encoding.proofs.Unique.{unique_body}
 use Rattle.faults.specs.declared.tree.TreeFault.{TreeFault}
-use Rattle.checker.specs.Check.{check, check_script, start}
+use Rattle.checker.specs.Check.{check_script, start}
 use Rattle.checker.specs.Laws.{place_of, Laws}
 use Rattle.checker.proofs.Kept.{kept_accepted}
 use Rattle.checker.proofs.Accepted.{accepted_kept}

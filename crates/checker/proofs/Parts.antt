@@ -1,5 +1,5 @@
 -- The parts of a word, read off the words after it: one of a kind, none, a list, declarators, a test.
-use Rattle.std.proofs.Common.{◌≡◌, ℕ, zero, suc, ◌+◌, ◌*◌, ◌<◌, ◌≤◌, List, [], ◌∷◌, ◌++◌, map, length, Some, None, Option, sym, refl, ap, ◌∙◌, subst, ap₂, append_assoc, append-nil, arith}
+use Rattle.std.proofs.Common.{◌≡◌, ℕ, zero, suc, ◌+◌, ◌*◌, ◌<◌, ◌≤◌, List, [], ◌∷◌, ◌++◌, map, length, Some, None, Option, sym, refl, ap, ◌∙◌, ap₂, append_assoc, append-nil, arith}
 use Rattle.words.specs.declared.word.Kind.{Kind}
 use Rattle.words.specs.declared.word.Kind.TheVariants as kind
 use Rattle.words.specs.declared.word.Word.{Word}
@@ -7,13 +7,13 @@ use Rattle.grammar.specs.declared.What.{What}
 use Rattle.grammar.specs.declared.What.TheVariants as what
 use Rattle.grammar.specs.declared.Part.{Part}
 use Rattle.grammar.specs.declared.Parts.{Parts}
-use Rattle.words.specs.Words.{word, for_expression, for_declaration, for_test, for_update}
+use Rattle.words.specs.Words.{word, for_test, for_update}
 use Rattle.grammar.specs.Format as format
-use Rattle.words.specs.Tree.{Expression, expression, Declarator, Start, no_start, start_expression, start_var, start_let, Statement, Statements, Cases}
-use Rattle.words.specs.Encode.{encode_expression, encode_optional, encode_declarator, encode_declarators, encode_start, flag, start_flag, count, count_cases, encode, encode_list, encode_cases}
+use Rattle.words.specs.Tree.{Expression, expression, Declarator, Start, no_start, start_expression, start_var, start_let, Statements, Cases}
+use Rattle.words.specs.Encode.{encode_expression, encode_optional, encode_declarator, encode_declarators, encode_start, flag, start_flag, count, count_cases, encode_list, encode_cases}
 use Rattle.checker.specs.Check.{Around, surround}
 use Rattle.checker.specs.Rules.{AllBelow, Known, KnownOptional, KnownDeclarator, KnownDeclarators, KnownStart, OneDefault, KeepsList, KeepsCases}
-use Rattle.checker.proofs.Items.{Declaration, by_var, by_let, encode_declaration, KnownDeclaration, All, joined, Item, words_of, Holds, Besides, Read, One, to_list, to_cases, list_words, list_count, list_keeps, cases_words, cases_count, cases_keep, at_most_one}
+use Rattle.checker.proofs.Items.{Declaration, by_var, by_let, encode_declaration, KnownDeclaration, All, joined, Item, words_of, Holds, Read, One, to_list, to_cases, list_words, list_count, list_keeps, cases_words, cases_count, cases_keep, at_most_one}
 
 pub nothing : {c : ℕ} {x : What} {a : Around} {u v : List Word} → Read c x 0 a u v → u ≡ v
 nothing {c} {x} {a} {u} {v} r = go r.items r.many r.words

@@ -1,5 +1,5 @@
 -- A refusal depends on no word after the refused one.
-use Rattle.std.proofs.Common.{◌≡◌, ℕ, ◌+◌, ◌≤◌, Bool, true, false, cond, List, [], ◌∷◌, ◌++◌, length, Ok, Err, sym, refl, ap, ◌∙◌, arith}
+use Rattle.std.proofs.Common.{◌≡◌, ℕ, ◌+◌, ◌≤◌, Bool, true, false, cond, List, [], ◌∷◌, ◌++◌, length, Ok, Err, refl, ap, arith}
 use Rattle.words.specs.declared.word.Word.{Word}
 use Rattle.grammar.specs.Format.{admits, allows}
 use Rattle.faults.specs.declared.tree.TreeFault.{TreeFault}

@@ -1,6 +1,5 @@
 -- One word of a check, on frames and on what is due.
-use Rattle.std.proofs.Common.{◌≡◌, ℕ, ◌+◌, ◌-◌, ◌*◌, ◌<◌, ◌≤◌, Bool, true, false, cond, eqb, ltb, leb, List, [], ◌∷◌, ◌++◌, map, length, take, drop, Ok, Err, sym, refl, ap, ◌∙◌, subst, ap₂, subst₂, append-nil, arith, length-append, length-drop, take-take, eqb-true, leb-true}
-use borrow.Author.Tests.{eqb-false}
+use Rattle.std.proofs.Common.{◌≡◌, ℕ, ◌+◌, ◌-◌, ◌≤◌, Bool, true, false, cond, eqb, leb, List, [], ◌∷◌, ◌++◌, length, take, drop, Ok, Err, sym, refl, ap, ◌∙◌, ap₂, subst₂, arith, length-append, length-drop, take-take, eqb-true, leb-true}
 use Rattle.std.proofs.lemmas.List.{take_all, take_at, length-take-le, drop_all, drop-append-le}
 use Rattle.words.specs.declared.word.Kind.{Kind}
 use Rattle.words.specs.declared.word.Kind.TheVariants as kind
@@ -15,10 +14,10 @@ use Rattle.grammar.specs.Format.{admits, after, has_depth_lem, allows, parts}
 use Rattle.checker.specs.declared.frame.Spot.{Spot}
 use Rattle.checker.specs.declared.frame.Frame.{Frame}
 use Rattle.faults.specs.declared.tree.TreeFault.{TreeFault}
-use Rattle.faults.specs.declared.tree.TreeFault.TheVariants.{Reader, Format, Depth, Expression, Jump}
-use Rattle.checker.specs.Check.{Around, Due, Verdict, depth_limit, jumps_well, is_known, not_deep, judge, is_label_lem, is_loop, within, with_labels, surround, need, part_due, rest_due, next, and_then, check}
-use Rattle.checker.specs.Held.{set_of, around_in, due_in, due_of, dues, relabelled, within_spot, placed, onto, part_frame, rest_frame, grown, risen, opened, looped, height, Fits, Sound, Left}
-use Rattle.checker.proofs.Heights.{height_least, inner_deep, sound_more, sound_onto, Up, grown_sound, least, inner, length_onto}
+use Rattle.faults.specs.declared.tree.TreeFault.TheVariants.{Format}
+use Rattle.checker.specs.Check.{Around, Due, Verdict, depth_limit, judge, is_label_lem, is_loop, within, with_labels, surround, need, part_due, rest_due, next, and_then, check}
+use Rattle.checker.specs.Held.{set_of, around_in, due_in, due_of, dues, relabelled, within_spot, placed, onto, part_frame, rest_frame, risen, opened, looped, height, Sound, Left}
+use Rattle.checker.proofs.Heights.{height_least, inner_deep, sound_onto, Up, grown_sound, least, length_onto}
 
 -- frames under so many labels do not see the others
 pub dues_same : (fs : List Frame) (m n : ℕ) (os ps ls ms : List ℕ) → Sound m n fs → take m os ≡ take m ps → take n ls ≡ take n ms → dues os ls fs ≡ dues ps ms fs

@@ -1,6 +1,6 @@
 -- How the code's frames, open labels and labels of loops stand for what is due. Inner: no public contract
 -- rests on these but for the bound on the stacks.
-use Rattle.std.specs.Prelude.{◌≡◌, ℕ, ◌+◌, ◌-◌, ◌*◌, ◌<◌, ◌≤◌, Bool, true, false, cond, List, [], ◌∷◌, ◌++◌, map, reverse, length, take, drop, ◌==◌}
+use Rattle.std.specs.Prelude.{◌≡◌, ℕ, ◌+◌, ◌-◌, ◌*◌, ◌<◌, ◌≤◌, Bool, true, cond, List, [], ◌∷◌, ◌++◌, map, reverse, length, take, drop, ◌==◌}
 use Rattle.bounded.specs.declared.stack.Stack.{Stack}
 use Rattle.bounded.specs.Stack.{held}
 use Rattle.words.specs.declared.word.Word.{Word}

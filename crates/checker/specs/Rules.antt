@@ -3,7 +3,7 @@
 -- ECMA-262: Break stands in a loop or Switch, Continue in a loop, BreakTo in a statement with its label
 -- (ContainsUndefinedBreakTarget), ContinueTo in a loop with its label set on it (ContainsUndefinedContinueTarget),
 -- and no label stands inside a statement with the same one (ContainsDuplicateLabels).
-use Rattle.std.specs.Prelude.{◌≡◌, ℕ, ◌+◌, ◌<◌, ◌≤◌, Bool, true, false, List, [], ◌∷◌, ◌++◌, Some, None, Option}
+use Rattle.std.specs.Prelude.{◌≡◌, ℕ, ◌+◌, ◌<◌, ◌≤◌, true, false, List, [], ◌∷◌, ◌++◌, Some, None, Option}
 use Rattle.words.specs.declared.word.Word.{Word}
 use Rattle.words.specs.Tree.{Expression, expression, Declarator, Name, NameInit, Start, no_start, start_expression, start_var, start_let}
 use Rattle.words.specs.Tree.{Statement, Empty, Break, Continue, Block, Expr, Throw, Var, If, IfElse, For, While, Do, Switch, Label, BreakTo, ContinueTo, Return, TryCatch, TryFinally, TryBoth}

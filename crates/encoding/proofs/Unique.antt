@@ -1,5 +1,5 @@
 -- No two trees have the same words: the words of a tree, and of its parts, say what it is and where it ends.
-use Rattle.std.proofs.Common.{◌≡◌, ℕ, suc, ◌+◌, ◌*◌, ◌≤◌, List, [], ◌∷◌, ◌++◌, map, length, Some, None, Option, sym, refl, ap, ◌∙◌, ap₂, append_assoc, mul-zero, mul-one, arith}
+use Rattle.std.proofs.Common.{◌≡◌, ℕ, ◌+◌, ◌*◌, ◌≤◌, List, [], ◌∷◌, ◌++◌, map, length, Some, None, Option, sym, refl, ap, ◌∙◌, ap₂, append_assoc, mul-zero, mul-one, arith}
 use Rattle.words.specs.declared.word.Kind.{Kind}
 use Rattle.words.specs.declared.word.Kind.TheVariants as kind
 use Rattle.words.specs.declared.word.Word.{Word}
@@ -8,7 +8,7 @@ use Rattle.words.specs.Tree.{Expression, expression, Declarator, Name, NameInit,
 use Rattle.words.specs.Tree.{Statement, Empty, Break, Continue, Block, Expr, Throw, Var, If, IfElse, For, While, Do, Switch, Label, BreakTo, ContinueTo, Return, TryCatch, TryFinally, TryBoth}
 use Rattle.words.specs.Tree.{Statements, none, some, Let, Cases, no_case, case}
 use Rattle.words.specs.Encode.{encode_expression, encode_optional, encode_declarator, encode_declarators, encode_let, encode_start, flag, start_flag, for_number, count, count_cases, catch_head, case_head, encode, encode_list, encode_cases, encode_body, encode_catch, encode_case}
-use Rattle.encoding.proofs.Seen.{Seen, Sight, sight, see, seen_Empty, seen_Break, seen_Continue, seen_Block, seen_Expr, seen_Throw, seen_Var, seen_If, seen_IfElse, seen_For, seen_While, seen_Do, seen_Switch, seen_Label, seen_BreakTo, seen_ContinueTo, seen_Return, seen_TryCatch, seen_TryFinally, seen_TryBoth}
+use Rattle.encoding.proofs.Seen.{Seen, Sight, sight, seen_Empty, seen_Break, seen_Continue, seen_Block, seen_Expr, seen_Throw, seen_Var, seen_If, seen_IfElse, seen_For, seen_While, seen_Do, seen_Switch, seen_Label, seen_BreakTo, seen_ContinueTo, seen_Return, seen_TryCatch, seen_TryFinally, seen_TryBoth}
 
 head_same : {A : Type 0} {x y : A} {xs ys : List A} → x ∷ xs ≡ y ∷ ys → x ≡ y
 head_same e = cc

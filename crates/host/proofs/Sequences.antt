@@ -1,5 +1,5 @@
 -- The parts of an expression's words, and the laws of a host's answers for expressions of any length.
-use Rattle.std.proofs.Common.{◌≡◌, ℕ, ◌+◌, ◌-◌, ◌<◌, ◌≤◌, Bool, true, false, cond, ◌||◌, eqb, List, [], ◌∷◌, map, length, get_or, take, drop, Some, None, Option, sym, refl, ap, ◌∙◌, arith, eq-eqb}
+use Rattle.std.proofs.Common.{◌≡◌, ℕ, ◌-◌, ◌<◌, ◌≤◌, Bool, true, false, cond, ◌||◌, eqb, List, [], ◌∷◌, map, length, get_or, take, drop, Some, None, Option, sym, refl, ap, ◌∙◌, arith, eq-eqb}
 use borrow.Author.Tests.{clash}
 use Rattle.std.proofs.lemmas.List.{take_all}
 use Rattle.words.specs.declared.word.Kind.TheVariants as kind
@@ -8,7 +8,7 @@ use Rattle.words.specs.Words.{word, code, read_word}
 use Rattle.words.specs.Tree.{Expression, expression}
 use Rattle.words.specs.Encode.{encode_expression}
 use Rattle.host.specs.Model.{Model, Lawful, Value, World, Outcome, gives, throws, no_return}
-use Rattle.host.specs.Sequence.{numbers, part_numbers, parts_of, last_number, sole_number, ask, truth_of, value_of, effects_of, literal_of, and_then, evaluate_of, SequenceLaws}
+use Rattle.host.specs.Sequence.{numbers, part_numbers, parts_of, last_number, sole_number, ask, effects_of, literal_of, and_then, evaluate_of, SequenceLaws}
 
 -- what follows the word of a Sequence
 pub after_head : (words : List ℕ) → 0 < length words → code (read_word (get_or words 0 0)).kind ≡ code kind.Sequence →

@@ -1,7 +1,6 @@
 -- One step of the search for a bad row, for both hosts.
-use Rattle.std.proofs.Common.{◌≡◌, ℕ, ◌+◌, ◌<◌, Bool, true, false, cond, List, length, get_or, drop, Some, Option, sym, ap, ◌∙◌}
+use Rattle.std.proofs.Common.{◌≡◌, ℕ, ◌+◌, ◌<◌, Bool, true, false, cond, List, length, get_or, drop, Some, sym, ap, ◌∙◌}
 use Rattle.std.proofs.lemmas.List.{at_drop_more}
-use Rattle.refusals.specs.declared.host.HostFault.{HostFault}
 use Rattle.refusals.specs.declared.host.HostFault.TheVariants.{Row}
 use Rattle.hosts.specs.RowWord.{no_row, first_bad}
 

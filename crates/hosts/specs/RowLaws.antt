@@ -1,9 +1,9 @@
 -- What accepted rows are, for both hosts: proofs alone, with no definition that a contract cites.
 use Rattle.std.specs.Prelude.{◌≡◌, ℕ, zero, suc, ◌+◌, ◌<◌, ◌≤◌, Bool, true, false, cond, List, [], ◌∷◌, length, is_some, Some, None, Option, slice_index_or, refl}
-use Rattle.std.proofs.Common.{sym, ap, ◌∙◌, add-zero, add-suc, suc-add, add-one, arith}
+use Rattle.std.proofs.Common.{sym, ap, ◌∙◌, add-zero, arith}
 use borrow.Author.Tests.{ltb-false, clash}
 use Rattle.refusals.specs.declared.host.HostFault.{HostFault}
-use Rattle.hosts.specs.RowWord.{least_rows, most_rows, no_row, first_bad, count_fault_lem, or_else}
+use Rattle.hosts.specs.RowWord.{least_rows, no_row, first_bad, count_fault_lem, or_else}
 
 -- a refusal that did not come: its test failed
 not_refused : (b : Bool) (fault : HostFault) (rest : Option HostFault) → is_some (cond b (Some fault) rest) ≡ false → (b ≡ false) × (is_some rest ≡ false)

@@ -1,15 +1,11 @@
 -- A fold pays for its changes: what it makes measures less by them, and with no change it is what it was.
-use Rattle.std.proofs.Common.{◌≡◌, ℕ, zero, suc, ◌+◌, ◌<◌, ◌≤◌, Bool, true, false, cond, not, ◌&&◌, ◌||◌, List, [], ◌∷◌, ◌++◌, map, length, Some, None, Option, sym, refl, ap, ◌∙◌, subst, arith}
-use mathlib.Core.Path.{fun_ext}
-use Rattle.host.specs.Model.{Model, Lawful, Value, World, Outcome, gives, throws, no_return, Declaration, by_var, by_let}
-use Rattle.host.specs.Sequence.{parts_of, last_number, ask, truth_of, value_of, effects_of, literal_of}
-use Rattle.words.specs.Tree.{Expression, expression, Declarator, Name, NameInit, Start, no_start, start_expression, start_var, start_let}
-use Rattle.words.specs.Tree.{Statement, Empty, Break, Continue, Block, Expr, Throw, Var, If, IfElse, For, While, Do, Switch, Label, BreakTo, ContinueTo, Return, TryCatch, TryFinally, TryBoth}
-use Rattle.words.specs.Tree.{Statements, none, some, Let, Cases, no_case, case}
-use Rattle.scan.specs.Weight.{weight_expression, test_weight, weight_optional, weight_declarators, weight_catch}
-use Rattle.meaning.proofs.Measure.{Scale, own, measure_start, measure, measure_list, measure_cases, at_least_one, expression_one, stub_cost, cost_least, cost_more, cost_apart, names_cost, list_cost, names_less, names_weight, append_weight, granted_length}
-use Rattle.meaning.specs.Fold.Folded.{Folded, folded, unchanged, changed, if_so, plus_changes}
-use Rattle.meaning.specs.Fold.KeepVar.{keep_var, keep_list, stub_var, stub_or_empty, stub_list}
+use Rattle.std.proofs.Common.{◌≡◌, ℕ, ◌+◌, ◌≤◌, Bool, true, false, cond, List, [], ◌∷◌, map, length, refl, arith}
+use Rattle.words.specs.Tree.{Name}
+use Rattle.words.specs.Tree.{Statement}
+use Rattle.scan.specs.Weight.{weight_declarators}
+use Rattle.meaning.proofs.Measure.{Scale, measure, measure_list, stub_cost, names_weight}
+use Rattle.meaning.specs.Fold.Folded.{Folded, unchanged, changed}
+use Rattle.meaning.specs.Fold.KeepVar.{stub_var, stub_or_empty, stub_list}
 
 pub impossible : {A : Type 0} → ◌≡◌ {A = ℕ} 1 0 → A
 impossible q = absurd (omega arith)

@@ -1,13 +1,13 @@
 -- One induction for every law of folding: a relation between trees before and after, with the changes between them,
 -- that holds of each fold and of each statement whose parts it holds of, holds of every step and pass.
-use Rattle.std.proofs.Common.{◌≡◌, ℕ, ◌+◌, ◌-◌, Bool, true, false, cond, eqb, ltb, List, Option, sym, refl, ap, ◌∙◌, subst, arith}
-use Rattle.words.specs.Tree.{Expression, expression, Declarator, Name, NameInit, Start, no_start, start_expression, start_var, start_let}
+use Rattle.std.proofs.Common.{◌≡◌, ℕ, ◌+◌, ◌-◌, Bool, true, false, cond, eqb, ltb, List, Option, subst, arith}
+use Rattle.words.specs.Tree.{Expression, Declarator, Start}
 use Rattle.words.specs.Tree.{Statement, Empty, Break, Continue, Block, Expr, Throw, Var, If, IfElse, For, While, Do, Switch, Label, BreakTo, ContinueTo, Return, TryCatch, TryFinally, TryBoth}
 use Rattle.words.specs.Tree.{Statements, none, some, Let, Cases, no_case, case}
 use Rattle.host.specs.Model.{Model}
-use Rattle.meaning.specs.Fold.Folded.{Folded, folded, unchanged, plus_changes}
+use Rattle.meaning.specs.Fold.Folded.{Folded}
 use Rattle.meaning.specs.Fold.Block.{Parent, loop_parent, block_parent, consequent_parent, label_parent, other_parent}
-use Rattle.meaning.specs.Pass.{size, size_list, size_cases, within, fold, fold_after, pass, pass_list, pass_cases}
+use Rattle.meaning.specs.Pass.{size, size_list, fold, fold_after, pass, pass_list, pass_cases}
 use Rattle.meaning.specs.Step.{here_or, step_inside, step_list, step_cases}
 
 pub record Closed (R : Statement → Statement → ℕ → Type 0) (L : Statements → Statements → ℕ → Type 0) (C : Cases → Cases → ℕ → Type 0) : Type 0 where

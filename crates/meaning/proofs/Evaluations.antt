@@ -1,10 +1,10 @@
 -- What the laws of a host say of evaluation, a sequence included.
-use Rattle.std.proofs.Common.{◌≡◌, ℕ, zero, suc, ◌+◌, ◌<◌, ◌≤◌, Bool, true, false, cond, not, ◌&&◌, ◌||◌, List, [], ◌∷◌, ◌++◌, map, Some, None, Option, sym, refl, ap, ◌∙◌, subst, arith}
+use Rattle.std.proofs.Common.{◌≡◌, ℕ, Bool, true, false, cond, ◌||◌, List, [], ◌∷◌, ◌++◌, Some, None, Option, sym, refl, ap, ◌∙◌}
 use mathlib.Core.Path.{fun_ext}
-use Rattle.host.specs.Model.{Model, Lawful, Value, World, Outcome, gives, throws, no_return, Declaration, by_var, by_let}
-use Rattle.host.specs.Sequence.{parts_of, last_number, ask, truth_of, value_of, effects_of, literal_of}
-use Rattle.meaning.specs.Completion.{Ending, normal, break, continue, gone, spent, break_to, continue_to, return, throw, Completion, Evaluation, is_normal, is_stopped, thrown, loop_continues, without_break, without_break_to, end, ◌thereafter◌, if_normal, ◌then◌, breakable, with_label, handle, catch_by, unless_stopped, finally, one_round, if_continues, turns, loop}
-use Rattle.meaning.specs.Run.{bound_names, let_names, let_names_cases, act, eval_parts, eval, eval_optional, branch, branch_optional, bind_name, declare_one, declare, leaving, scope, scoped, renewed, while_loop, do_loop, for_body, for_loop, Clauses, fall_through, if_default, from_default, if_selected, select_case, switch, return_value, catch_clause, run, run_list, run_cases, run_body}
+use Rattle.host.specs.Model.{Model, Lawful, Value, World, Outcome, gives, throws, no_return}
+use Rattle.host.specs.Sequence.{parts_of, last_number, ask, truth_of, value_of, effects_of}
+use Rattle.meaning.specs.Completion.{Evaluation}
+use Rattle.meaning.specs.Run.{act, eval_parts, eval, branch}
 use Rattle.words.specs.Tree.{Expression, expression}
 
 pub or_false_left : (a b : Bool) → (a || b) ≡ false → a ≡ false

@@ -1,22 +1,20 @@
 -- Folds, steps, passes and settling keep the hoisted names, but for granted ones.
-use Rattle.std.proofs.Common.{◌≡◌, ℕ, zero, suc, ◌+◌, ◌<◌, ◌≤◌, Bool, true, false, cond, not, ◌&&◌, ◌||◌, List, [], ◌∷◌, ◌++◌, map, Some, None, Option, sym, refl, ap, ◌∙◌, subst, arith}
-use mathlib.Core.Path.{fun_ext}
-use Rattle.host.specs.Model.{Model, Lawful, Value, World, Outcome, gives, throws, no_return, Declaration, by_var, by_let}
-use Rattle.host.specs.Sequence.{parts_of, last_number, ask, truth_of, value_of, effects_of, literal_of}
-use Rattle.words.specs.Tree.{Expression, expression, Declarator, Name, NameInit, Start, no_start, start_expression, start_var, start_let}
+use Rattle.std.proofs.Common.{◌≡◌, ℕ, Bool, true, false, cond, not, List, [], ◌∷◌, ◌++◌, Some, None, Option, sym, refl, ap, ◌∙◌}
+use Rattle.host.specs.Model.{Model}
+use Rattle.host.specs.Sequence.{parts_of, truth_of, effects_of}
+use Rattle.words.specs.Tree.{Expression, Start, no_start, start_expression, start_var, start_let}
 use Rattle.words.specs.Tree.{Statement, Empty, Break, Continue, Block, Expr, Throw, Var, If, IfElse, For, While, Do, Switch, Label, BreakTo, ContinueTo, Return, TryCatch, TryFinally, TryBoth}
-use Rattle.words.specs.Tree.{Statements, none, some, Let, Cases, no_case, case}
+use Rattle.words.specs.Tree.{Statements, none, some, Let, Cases}
 use Rattle.meaning.specs.FoldLaws.{NamesLeft, FoldKeepsNames, StepKeepsNames, PassKeepsNames, SettleKeepsNames}
-use Rattle.meaning.specs.Fold.Folded.{Folded, folded, unchanged, changed, if_so, plus_changes}
+use Rattle.meaning.specs.Fold.Folded.{folded, unchanged, changed, if_so}
 use Rattle.meaning.specs.Fold.KeepVar.{keep_start, keep_var, keep_list, keep_cases, stub_var, stub_or_empty, stub_list}
 use Rattle.meaning.specs.Fold.IsTerminated.{is_bare_var}
 use Rattle.meaning.specs.Fold.Block.{Parent, block_parent, empties, stays_inside, try_optimize_block}
-use Rattle.meaning.specs.Fold.If.{if_statement, is_empty, or_empty, keep_optional, is_present, stub_branch, stub_alternate, not_granted, write_test, drop_alternate, drop_consequent, fold_true, fold_false, fold_test, fold_alternate, try_fold_if, try_fold_if_else}
+use Rattle.meaning.specs.Fold.If.{if_statement, is_empty, or_empty, keep_optional, is_present, stub_branch, stub_alternate, not_granted, fold_true, fold_false, fold_test, fold_alternate, try_fold_if}
 use Rattle.meaning.specs.Fold.For.{drop_start, drop_update, never_entered, fold_for_truth, fold_for_test, try_fold_for}
 use Rattle.meaning.specs.Fold.Labeled.{is_idle, try_fold_labeled}
-use Rattle.meaning.specs.Fold.Try.{is_cleared, clear_catch, fold_catch, finish_catch, keep_finalizer, finish_both, try_fold_catch, try_fold_finally, try_fold_both}
-use Rattle.meaning.specs.Pass.{fold, pass_body, Settles, rests, again}
-use Rattle.meaning.specs.Step.{step_body}
+use Rattle.meaning.specs.Fold.Try.{is_cleared, fold_catch, finish_catch, finish_both, try_fold_finally}
+use Rattle.meaning.specs.Pass.{fold, pass_body, rests, again}
 use Rattle.meaning.proofs.Evaluations.{append_nil}
 use Rattle.meaning.proofs.Names.{left_same, left_eq, left_chain, left_append, left_granted, bound_append, keep_stub_var, keep_stub_or_empty, keep_stub_list}
 use Rattle.meaning.proofs.Closed.{Closed, pass_list_law, step_list_law}

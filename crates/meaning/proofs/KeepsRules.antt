@@ -1,22 +1,19 @@
 -- Folds, steps, passes and settling keep the rules of a script, whatever labels are to be dropped.
-use Rattle.std.proofs.Common.{◌≡◌, ℕ, zero, suc, ◌+◌, ◌<◌, ◌≤◌, Bool, true, false, cond, not, ◌&&◌, ◌||◌, List, [], ◌∷◌, ◌++◌, map, Some, None, Option, sym, refl, ap, ◌∙◌, subst, arith}
-use mathlib.Core.Path.{fun_ext}
-use Rattle.host.specs.Model.{Model, Lawful, Value, World, Outcome, gives, throws, no_return, Declaration, by_var, by_let}
-use Rattle.host.specs.Sequence.{parts_of, last_number, ask, truth_of, value_of, effects_of, literal_of}
-use Rattle.words.specs.Tree.{Expression, expression, Declarator, Name, NameInit, Start, no_start, start_expression, start_var, start_let}
+use Rattle.std.proofs.Common.{ℕ, ◌+◌, ◌≤◌, Bool, true, false, cond, List, Some, None, Option}
+use Rattle.host.specs.Model.{Model}
+use Rattle.words.specs.Tree.{Expression}
 use Rattle.words.specs.Tree.{Statement, Empty, Break, Continue, Block, Expr, Throw, Var, If, IfElse, For, While, Do, Switch, Label, BreakTo, ContinueTo, Return, TryCatch, TryFinally, TryBoth}
-use Rattle.words.specs.Tree.{Statements, none, some, Let, Cases, no_case, case}
-use Rattle.checker.specs.Check.{Around, depth_limit}
+use Rattle.words.specs.Tree.{Statements, Cases, case}
+use Rattle.checker.specs.Check.{Around}
 use Rattle.slices.specs.Among.{among}
-use Rattle.checker.specs.Rules.{Keeps, KeepsList, KeepsCases, Known, KnownOptional, KnownDeclarators, KnownStart, AllBelow, inside, loop_body, switch_case, labelled, listed, OneDefault, NoDefault}
+use Rattle.checker.specs.Rules.{Keeps, KeepsList, KeepsCases, inside, loop_body, switch_case, labelled, listed, OneDefault, NoDefault}
 use Rattle.checker.specs.Check.{nowhere}
-use Rattle.meaning.specs.Fold.Folded.{Folded, unchanged, changed}
+use Rattle.meaning.specs.Fold.Folded.{unchanged, changed}
 use Rattle.meaning.specs.Fold.KeepVar.{keep_var, stub_or_empty}
 use Rattle.meaning.specs.Fold.Block.{Parent, block_parent}
 use Rattle.meaning.specs.Fold.Labeled.{is_idle, try_fold_labeled}
-use Rattle.meaning.specs.Pass.{fold, pass_body, Settles, rests, again}
-use Rattle.meaning.specs.Step.{step_body}
-use Rattle.meaning.specs.FoldLaws.{FoldKeepsRules, KeepsRules, StepKeepsRules, PassKeepsRules, SettleKeepsRules}
+use Rattle.meaning.specs.Pass.{fold, pass_body, rests, again}
+use Rattle.meaning.specs.FoldLaws.{FoldKeepsRules, StepKeepsRules, PassKeepsRules, SettleKeepsRules}
 use Rattle.meaning.proofs.Closed.{Closed, pass_list_law, step_list_law}
 use Rattle.meaning.proofs.Fold.Block.{block_accepted}
 use Rattle.meaning.proofs.Fold.If.{if_accepted, if_else_accepted}

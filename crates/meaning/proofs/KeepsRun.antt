@@ -1,23 +1,17 @@
 -- Folds, steps, passes and settling keep the rules and the run.
-use Rattle.std.proofs.Common.{◌≡◌, ℕ, zero, suc, ◌+◌, ◌<◌, ◌≤◌, Bool, true, false, cond, not, ◌&&◌, ◌||◌, List, [], ◌∷◌, ◌++◌, map, Some, None, Option, sym, refl, ap, ◌∙◌, subst, arith}
-use mathlib.Core.Path.{fun_ext}
-use Rattle.host.specs.Model.{Model, Lawful, Value, World, Outcome, gives, throws, no_return, Declaration, by_var, by_let}
-use Rattle.host.specs.Sequence.{parts_of, last_number, ask, truth_of, value_of, effects_of, literal_of}
-use Rattle.meaning.specs.Completion.{Ending, normal, break, continue, gone, spent, break_to, continue_to, return, throw, Completion, Evaluation, is_normal, is_stopped, thrown, loop_continues, without_break, without_break_to, end, ◌thereafter◌, if_normal, ◌then◌, breakable, with_label, handle, catch_by, unless_stopped, finally, one_round, if_continues, turns, loop}
-use Rattle.meaning.specs.Run.{bound_names, let_names, let_names_cases, act, eval_parts, eval, eval_optional, branch, branch_optional, bind_name, declare_one, declare, leaving, scope, scoped, renewed, while_loop, do_loop, for_body, for_loop, Clauses, fall_through, if_default, from_default, if_selected, select_case, switch, return_value, catch_clause, run, run_list, run_cases, run_body}
-use Rattle.words.specs.Tree.{Expression, expression, Declarator, Name, NameInit, Start, no_start, start_expression, start_var, start_let}
+use Rattle.std.proofs.Common.{◌≡◌, ℕ, ◌+◌, List, [], ◌∷◌, ◌++◌, Some, None, Option, refl, ap, ◌∙◌, subst}
+use Rattle.host.specs.Model.{Model, Lawful, by_let}
+use Rattle.meaning.specs.Completion.{normal, end, ◌then◌, with_label, catch_by, finally}
+use Rattle.meaning.specs.Run.{bound_names, let_names, let_names_cases, branch, declare, scoped, while_loop, do_loop, for_loop, switch, catch_clause, run, run_list, run_cases, run_body}
+use Rattle.words.specs.Tree.{Expression, Declarator, Start}
 use Rattle.words.specs.Tree.{Statement, Empty, Break, Continue, Block, Expr, Throw, Var, If, IfElse, For, While, Do, Switch, Label, BreakTo, ContinueTo, Return, TryCatch, TryFinally, TryBoth}
-use Rattle.words.specs.Tree.{Statements, none, some, Let, Cases, no_case, case}
-use Rattle.checker.specs.Check.{Around, depth_limit}
-use Rattle.slices.specs.Among.{among}
-use Rattle.checker.specs.Rules.{Keeps, KeepsList, KeepsCases, Known, KnownOptional, KnownDeclarators, KnownStart, AllBelow, inside, loop_body, switch_case, labelled, listed, OneDefault, NoDefault}
+use Rattle.words.specs.Tree.{Statements, some, Let, Cases, case}
+use Rattle.checker.specs.Check.{Around}
+use Rattle.checker.specs.Rules.{Keeps, KeepsList, KeepsCases, inside, loop_body, switch_case, labelled, listed, OneDefault, NoDefault}
 use Rattle.meaning.specs.FoldLaws.{Sound}
-use Rattle.meaning.proofs.Surroundings.{Wider, widen, widen_list, wider_out, keeps_deep, run_out}
 use Rattle.checker.specs.Check.{nowhere}
-use Rattle.meaning.specs.Fold.Folded.{Folded, unchanged}
 use Rattle.meaning.specs.Fold.Block.{Parent, block_parent}
-use Rattle.meaning.specs.Pass.{fold, pass_body, Settles, rests, again}
-use Rattle.meaning.specs.Step.{step_body}
+use Rattle.meaning.specs.Pass.{fold, pass_body, rests, again}
 use Rattle.meaning.specs.FoldLaws.{FoldKeepsRun, KeepsRun, StepKeepsRun, PassKeepsRun, SettleKeepsRun}
 use Rattle.meaning.proofs.Surroundings.{sound_inside, sound_switch, sound_listed, sound_loop, sound_labelled}
 use Rattle.meaning.proofs.Closed.{Closed, pass_list_law, step_list_law}

@@ -1,18 +1,15 @@
 -- Weight and the number of words as one measure: a word counts 1, and what weight adds to it counts `unit`, which is 1 for
 -- weight and 0 for words. Stubs never measure more than what they stand for.
-use Rattle.std.proofs.Common.{◌≡◌, ℕ, zero, suc, ◌+◌, ◌-◌, ◌<◌, ◌≤◌, Bool, true, false, cond, not, ◌&&◌, ◌||◌, List, [], ◌∷◌, ◌++◌, map, length, Some, None, Option, sym, refl, ap, ◌∙◌, subst, arith}
-use mathlib.Core.Path.{fun_ext}
-use Rattle.host.specs.Model.{Model, Lawful, Value, World, Outcome, gives, throws, no_return, Declaration, by_var, by_let}
-use Rattle.host.specs.Sequence.{parts_of, last_number, ask, truth_of, value_of, effects_of, literal_of}
+use Rattle.std.proofs.Common.{◌≡◌, ℕ, zero, suc, ◌+◌, ◌≤◌, Bool, true, false, cond, List, [], ◌∷◌, ◌++◌, map, length, sym, refl, subst, arith}
+use Rattle.host.specs.Model.{Model}
 use Rattle.words.specs.Tree.{Expression, expression, Declarator, Name, NameInit, Start, no_start, start_expression, start_var, start_let}
 use Rattle.words.specs.Tree.{Statement, Empty, Break, Continue, Block, Expr, Throw, Var, If, IfElse, For, While, Do, Switch, Label, BreakTo, ContinueTo, Return, TryCatch, TryFinally, TryBoth}
 use Rattle.words.specs.Tree.{Statements, none, some, Let, Cases, no_case, case}
-use Rattle.scan.specs.Weight.{weight_expression, test_weight, weight_optional, weight_declarator, weight_declarators, weight_catch}
+use Rattle.scan.specs.Weight.{weight_expression, test_weight, weight_optional, weight_declarators, weight_catch}
 use Rattle.meaning.specs.Run.{bound_names}
-use Rattle.meaning.specs.Fold.KeepVar.{keep_start, keep_var, keep_list, keep_cases, stub_var, stub_or_empty, stub_list}
+use Rattle.meaning.specs.Fold.KeepVar.{keep_start, keep_var, keep_list, keep_cases}
 use Rattle.meaning.specs.Fold.IsTerminated.{all_bare, is_bare_var}
 use Rattle.meaning.specs.Fold.If.{not_granted}
-use Rattle.meaning.specs.Fold.Select.{join}
 
 pub length_append : (xs ys : List ℕ) → length (xs ++ ys) ≡ length xs + length ys
 length_append [] ys = omega arith

@@ -1,15 +1,12 @@
 -- Names left of a list: the algebra, and the names of stubs and joined lists.
-use Rattle.std.proofs.Common.{◌≡◌, ℕ, zero, suc, ◌+◌, ◌<◌, ◌≤◌, Bool, true, false, cond, not, ◌&&◌, ◌||◌, eqb, List, [], ◌∷◌, ◌++◌, map, Some, None, Option, sym, refl, ap, ◌∙◌, subst, append_assoc, arith, eqb→eq}
-use mathlib.Core.Path.{fun_ext}
-use Rattle.host.specs.Model.{Model, Lawful, Value, World, Outcome, gives, throws, no_return, Declaration, by_var, by_let}
-use Rattle.host.specs.Sequence.{parts_of, last_number, ask, truth_of, value_of, effects_of, literal_of}
-use Rattle.words.specs.Tree.{Expression, expression, Declarator, Name, NameInit, Start, no_start, start_expression, start_var, start_let}
-use Rattle.words.specs.Tree.{Statement, Empty, Break, Continue, Block, Expr, Throw, Var, If, IfElse, For, While, Do, Switch, Label, BreakTo, ContinueTo, Return, TryCatch, TryFinally, TryBoth}
-use Rattle.words.specs.Tree.{Statements, none, some, Let, Cases, no_case, case}
+use Rattle.std.proofs.Common.{◌≡◌, ℕ, Bool, true, false, cond, eqb, List, [], ◌∷◌, ◌++◌, map, sym, refl, ap, ◌∙◌, append_assoc, arith, eqb→eq}
+use Rattle.host.specs.Model.{Model}
+use Rattle.words.specs.Tree.{Declarator, Name, NameInit}
+use Rattle.words.specs.Tree.{Statements, none, some, Let}
 use Rattle.slices.specs.Among.{among}
 use Rattle.meaning.specs.Run.{bound_names}
 use Rattle.meaning.specs.FoldLaws.{NamesLeft}
-use Rattle.meaning.specs.Fold.KeepVar.{keep_var, keep_list, keep_cases, stub_var, stub_or_empty, stub_list}
+use Rattle.meaning.specs.Fold.KeepVar.{keep_var, keep_list, stub_var, stub_or_empty, stub_list}
 use Rattle.meaning.specs.Fold.If.{not_granted}
 use Rattle.meaning.specs.Fold.Select.{join}
 use Rattle.meaning.proofs.Evaluations.{append_nil}

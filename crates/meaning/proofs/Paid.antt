@@ -1,21 +1,19 @@
 -- Folds, steps, passes and settling pay for their changes, settling ends, and what has settled stays.
-use Rattle.std.proofs.Common.{◌≡◌, ℕ, zero, suc, ◌+◌, ◌-◌, ◌<◌, ◌≤◌, Bool, true, false, cond, not, ◌&&◌, ◌||◌, eqb, ltb, List, [], ◌∷◌, ◌++◌, map, length, Some, None, Option, sym, refl, ap, ◌∙◌, subst, arith}
-use mathlib.Core.Path.{fun_ext}
-use Rattle.host.specs.Model.{Model, Lawful, Value, World, Outcome, gives, throws, no_return, Declaration, by_var, by_let}
-use Rattle.host.specs.Sequence.{parts_of, last_number, ask, truth_of, value_of, effects_of, literal_of}
-use Rattle.words.specs.Tree.{Expression, expression, Declarator, Name, NameInit, Start, no_start, start_expression, start_var, start_let}
+use Rattle.std.proofs.Common.{◌≡◌, ℕ, zero, suc, ◌+◌, ◌-◌, ◌≤◌, Bool, true, false, cond, eqb, ltb, List, length, Option, sym, refl, ap, ◌∙◌, subst, arith}
+use Rattle.host.specs.Model.{Model, Lawful}
+use Rattle.words.specs.Tree.{Expression}
 use Rattle.words.specs.Tree.{Statement, Empty, Break, Continue, Block, Expr, Throw, Var, If, IfElse, For, While, Do, Switch, Label, BreakTo, ContinueTo, Return, TryCatch, TryFinally, TryBoth}
 use Rattle.words.specs.Tree.{Statements, none, some, Let, Cases, no_case, case}
 use Rattle.words.specs.Encode.{encode, encode_list, encode_body}
-use Rattle.scan.specs.Weight.{weight, weight_list, weight_body, weight_expression, weight_optional, weight_declarators, weight_catch, test_weight}
-use Rattle.meaning.specs.Fold.Folded.{Folded, folded, unchanged, plus_changes}
+use Rattle.scan.specs.Weight.{weight, weight_list, weight_body}
+use Rattle.meaning.specs.Fold.Folded.{Folded}
 use Rattle.meaning.specs.Fold.Block.{Parent, loop_parent, block_parent, consequent_parent, label_parent, other_parent}
-use Rattle.meaning.specs.Pass.{size, size_list, fold, fold_after, pass, pass_list, pass_cases, pass_body, Settles, rests, again}
-use Rattle.meaning.specs.Step.{step_inside, step_list, step_cases, step_body}
-use Rattle.meaning.specs.ChangeLaws.{Pays, PaysScript, FoldPays, StepPays, PassPays, SettlePays, SettleEnds, SettleUnique, Quiet, SettledQuiet}
-use Rattle.meaning.proofs.Measure.{Scale, own, measure_start, measure, measure_list, measure_cases}
+use Rattle.meaning.specs.Pass.{size, size_list, fold, pass, pass_list, pass_cases, pass_body, Settles, rests, again}
+use Rattle.meaning.specs.Step.{step_inside, step_list, step_cases}
+use Rattle.meaning.specs.ChangeLaws.{Pays, PaysScript, FoldPays, StepPays, PassPays, SettlePays, SettleEnds, SettleUnique, SettledQuiet}
+use Rattle.meaning.proofs.Measure.{Scale, measure, measure_list, measure_cases}
 use Rattle.meaning.proofs.Scales.{by_weight, by_words, weight_is, weight_list_is, words_is, words_list_is}
-use Rattle.meaning.proofs.Bound.{Bound, bound_same, zero_left, zero_right}
+use Rattle.meaning.proofs.Bound.{bound_same, zero_left, zero_right}
 use Rattle.meaning.proofs.Fold.Bounds.{block_bound, labeled_bound, for_bound, try_catch_bound, try_finally_bound, try_both_bound}
 use Rattle.meaning.proofs.Fold.IfBounds.{if_bound, if_else_bound}
 use Rattle.meaning.proofs.Fold.SwitchBounds.{switch_bound}

@@ -1,17 +1,13 @@
 -- Places are counted as the words have them, and past the last one nothing is folded.
-use Rattle.std.proofs.Common.{◌≡◌, ℕ, zero, suc, ◌+◌, ◌-◌, ◌<◌, ◌≤◌, Bool, true, false, cond, not, ◌&&◌, ◌||◌, eqb, ltb, List, [], ◌∷◌, ◌++◌, map, length, Some, None, Option, sym, refl, ap, ◌∙◌, subst, arith, eqb→eq, ltb→lt}
-use mathlib.Core.Path.{fun_ext}
-use Rattle.host.specs.Model.{Model, Lawful, Value, World, Outcome, gives, throws, no_return, Declaration, by_var, by_let}
-use Rattle.host.specs.Sequence.{parts_of, last_number, ask, truth_of, value_of, effects_of, literal_of}
-use Rattle.words.specs.Tree.{Expression, expression, Declarator, Name, NameInit, Start, no_start, start_expression, start_var, start_let}
+use Rattle.std.proofs.Common.{◌≡◌, ℕ, suc, ◌+◌, ◌-◌, ◌<◌, ◌≤◌, Bool, true, false, cond, eqb, ltb, List, ◌++◌, length, Some, None, refl, ap, ◌∙◌, arith, eqb→eq, ltb→lt}
+use Rattle.host.specs.Model.{Model}
 use Rattle.words.specs.Tree.{Statement, Empty, Break, Continue, Block, Expr, Throw, Var, If, IfElse, For, While, Do, Switch, Label, BreakTo, ContinueTo, Return, TryCatch, TryFinally, TryBoth}
 use Rattle.words.specs.Tree.{Statements, none, some, Let, Cases, no_case, case}
-use Rattle.scan.specs.Places.{places, places_list, places_cases, places_body}
-use Rattle.meaning.specs.Fold.Folded.{Folded, folded, unchanged}
-use Rattle.meaning.specs.Fold.Block.{Parent, block_parent, other_parent}
-use Rattle.meaning.specs.Fold.If.{keep_optional, is_present, not_granted}
+use Rattle.scan.specs.Places.{places, places_list, places_cases}
+use Rattle.meaning.specs.Fold.Folded.{unchanged}
+use Rattle.meaning.specs.Fold.Block.{Parent, block_parent}
 use Rattle.meaning.specs.Pass.{size, size_list, size_cases, within, fold}
-use Rattle.meaning.specs.Step.{here_or, step_inside, step_list, step_cases}
+use Rattle.meaning.specs.Step.{here_or, step_inside, step_list}
 use Rattle.meaning.specs.StepLaws.{PlacesCounted, PastPlaces, AlternateThere}
 use Rattle.meaning.proofs.Measure.{length_append}
 

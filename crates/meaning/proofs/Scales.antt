@@ -1,15 +1,12 @@
 -- The two measures: weight, and the number of words.
-use Rattle.std.proofs.Common.{◌≡◌, ℕ, zero, suc, ◌+◌, ◌<◌, ◌≤◌, Bool, true, false, cond, not, ◌&&◌, ◌||◌, List, [], ◌∷◌, ◌++◌, map, length, Some, None, Option, sym, refl, ap, ◌∙◌, subst, arith}
-use mathlib.Core.Path.{fun_ext}
-use Rattle.host.specs.Model.{Model, Lawful, Value, World, Outcome, gives, throws, no_return, Declaration, by_var, by_let}
-use Rattle.host.specs.Sequence.{parts_of, last_number, ask, truth_of, value_of, effects_of, literal_of}
+use Rattle.std.proofs.Common.{◌≡◌, ℕ, suc, ◌+◌, List, [], ◌∷◌, ◌++◌, map, length, Some, None, Option, refl, ap, arith}
 use Rattle.words.specs.Tree.{Expression, expression, Declarator, Name, NameInit, Start, no_start, start_expression, start_var, start_let}
 use Rattle.words.specs.Tree.{Statement, Empty, Break, Continue, Block, Expr, Throw, Var, If, IfElse, For, While, Do, Switch, Label, BreakTo, ContinueTo, Return, TryCatch, TryFinally, TryBoth}
 use Rattle.words.specs.Tree.{Statements, none, some, Let, Cases, no_case, case}
 use Rattle.words.specs.declared.word.Kind.TheVariants as kind
 use Rattle.words.specs.Words.{word}
-use Rattle.words.specs.Encode.{encode_expression, encode_optional, encode_declarator, encode_declarators, encode_start, encode_let, encode, encode_list, encode_cases, catch_head, case_head, count}
-use Rattle.scan.specs.Weight.{weight_expression, test_weight, weight_optional, weight_declarator, weight_declarators, weight_start, weight_catch, weight, weight_list, weight_cases}
+use Rattle.words.specs.Encode.{encode_expression, encode_optional, encode_declarators, encode_start, encode_let, encode, encode_list, encode_cases, catch_head, case_head, count}
+use Rattle.scan.specs.Weight.{weight_expression, test_weight, weight_optional, weight_declarators, weight_start, weight_catch, weight, weight_list, weight_cases}
 use Rattle.meaning.proofs.Measure.{Scale, measure_start, measure, measure_list, measure_cases}
 
 abbrev pub by_weight : Scale

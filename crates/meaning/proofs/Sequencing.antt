@@ -1,15 +1,13 @@
 -- Lists one after the other, stubs, and what never goes on.
-use Rattle.std.proofs.Common.{◌≡◌, ℕ, zero, suc, ◌+◌, ◌<◌, ◌≤◌, Bool, true, false, cond, not, ◌&&◌, ◌||◌, List, [], ◌∷◌, ◌++◌, map, Some, None, Option, sym, refl, ap, ◌∙◌, subst, append_assoc, arith}
+use Rattle.std.proofs.Common.{◌≡◌, ℕ, true, cond, List, [], ◌∷◌, ◌++◌, map, sym, refl, ap, ◌∙◌, append_assoc}
 use mathlib.Core.Path.{fun_ext}
-use Rattle.host.specs.Model.{Model, Lawful, Value, World, Outcome, gives, throws, no_return, Declaration, by_var, by_let}
-use Rattle.host.specs.Sequence.{parts_of, last_number, ask, truth_of, value_of, effects_of, literal_of}
-use Rattle.meaning.specs.Completion.{Ending, normal, break, continue, gone, spent, break_to, continue_to, return, throw, Completion, Evaluation, is_normal, is_stopped, thrown, loop_continues, without_break, without_break_to, end, ◌thereafter◌, if_normal, ◌then◌, breakable, with_label, handle, catch_by, unless_stopped, finally, one_round, if_continues, turns, loop}
-use Rattle.meaning.specs.Run.{bound_names, let_names, let_names_cases, act, eval_parts, eval, eval_optional, branch, branch_optional, bind_name, declare_one, declare, leaving, scope, scoped, renewed, while_loop, do_loop, for_body, for_loop, Clauses, fall_through, if_default, from_default, if_selected, select_case, switch, return_value, catch_clause, run, run_list, run_cases, run_body}
-use Rattle.words.specs.Tree.{Expression, expression, Declarator, Name, NameInit, Start, no_start, start_expression, start_var, start_let}
-use Rattle.words.specs.Tree.{Statement, Empty, Break, Continue, Block, Expr, Throw, Var, If, IfElse, For, While, Do, Switch, Label, BreakTo, ContinueTo, Return, TryCatch, TryFinally, TryBoth}
-use Rattle.words.specs.Tree.{Statements, none, some, Let, Cases, no_case, case}
-use Rattle.meaning.specs.Fold.KeepVar.{stub_var, stub_or_empty, stub_list}
-use Rattle.meaning.specs.Fold.IsTerminated.{all_bare, is_bare_var}
+use Rattle.host.specs.Model.{Model, Value, World, Outcome, gives, throws, no_return, by_var, by_let}
+use Rattle.meaning.specs.Completion.{Ending, normal, break, continue, gone, spent, break_to, continue_to, return, throw, Evaluation, end, ◌thereafter◌, if_normal, ◌then◌}
+use Rattle.meaning.specs.Run.{bound_names, let_names, act, eval_parts, eval, declare_one, declare, run, run_list}
+use Rattle.words.specs.Tree.{Expression, expression, Declarator, Name, NameInit}
+use Rattle.words.specs.Tree.{Statements, none, some, Let}
+use Rattle.meaning.specs.Fold.KeepVar.{stub_or_empty, stub_list}
+use Rattle.meaning.specs.Fold.IsTerminated.{all_bare}
 use Rattle.meaning.specs.Fold.Select.{join}
 use Rattle.meaning.proofs.Within.{Within}
 use Rattle.meaning.proofs.Terminated.{Abrupt}

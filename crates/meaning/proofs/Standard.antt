@@ -1,13 +1,12 @@
 -- KeepVar finds VarDeclaredNames, and a Switch runs as CaseBlockEvaluation has it.
-use Rattle.std.proofs.Common.{◌≡◌, ℕ, zero, suc, ◌≤◌, Bool, true, false, cond, ◌&&◌, ◌||◌, eqb, List, [], ◌∷◌, ◌++◌, Some, None, Option, sym, refl, ap, ◌∙◌, append_assoc, le_trans, le_refl, arith}
-use mathlib.Core.Path.{fun_ext}
-use Rattle.host.specs.Model.{Model, Value, World, Outcome, gives, throws, no_return, Declaration, by_var, by_let}
-use Rattle.meaning.specs.Completion.{Ending, normal, break, continue, gone, spent, break_to, continue_to, return, throw, Completion, Evaluation, is_normal, is_stopped, thrown, loop_continues, without_break, without_break_to, end, ◌thereafter◌, if_normal, ◌then◌, breakable, with_label, handle, catch_by, unless_stopped, finally, one_round, if_continues, turns, loop}
-use Rattle.meaning.specs.Run.{bound_names, let_names, let_names_cases, act, eval_parts, eval, eval_optional, branch, branch_optional, bind_name, declare_one, declare, leaving, scope, scoped, renewed, while_loop, do_loop, for_body, for_loop, Clauses, fall_through, if_default, from_default, if_selected, select_case, switch, return_value, catch_clause, run, run_list, run_cases, run_body}
-use Rattle.words.specs.Tree.{Expression, expression, Declarator, Name, NameInit, Start, no_start, start_expression, start_var, start_let}
+use Rattle.std.proofs.Common.{◌≡◌, Bool, true, false, cond, List, [], ◌∷◌, ◌++◌, Some, None, sym, refl, ap, ◌∙◌, append_assoc}
+use Rattle.host.specs.Model.{Model, Value}
+use Rattle.meaning.specs.Completion.{normal, Evaluation, end, ◌then◌, breakable}
+use Rattle.meaning.specs.Run.{let_names_cases, eval, scoped, fall_through, if_default, from_default, if_selected, select_case, switch, run, run_list, run_cases}
+use Rattle.words.specs.Tree.{Expression, Start, no_start, start_expression, start_var, start_let}
 use Rattle.words.specs.Tree.{Statement, Empty, Break, Continue, Block, Expr, Throw, Var, If, IfElse, For, While, Do, Switch, Label, BreakTo, ContinueTo, Return, TryCatch, TryFinally, TryBoth}
 use Rattle.words.specs.Tree.{Statements, none, some, Let, Cases, no_case, case}
-use Rattle.checker.specs.Rules.{OneDefault, NoDefault}
+use Rattle.checker.specs.Rules.{NoDefault}
 use Rattle.meaning.specs.Fold.KeepVar.{keep_start, keep_var, keep_list, keep_cases}
 use Rattle.meaning.specs.VarDeclaredNames.{for_names, var_declared_names, names_of_list, names_of_clauses, names_before_default, names_of_default, names_after_default}
 use Rattle.meaning.specs.CaseBlock.{CaseClause, CaseBlock, without_default, with_default, clauses_then, written, case_clause_is_selected, each_clause, evaluate_each, default_and_after, case_block_evaluation}

@@ -1,16 +1,14 @@
 -- A terminated statement never ends normally.
-use Rattle.std.proofs.Common.{◌≡◌, ℕ, zero, suc, ◌≤◌, Bool, true, false, cond, ◌&&◌, ◌||◌, eqb, List, [], ◌∷◌, ◌++◌, Some, None, Option, sym, refl, ap, ◌∙◌, le_trans, le_refl, arith}
-use mathlib.Core.Path.{fun_ext}
-use Rattle.host.specs.Model.{Model, Value, World, Outcome, gives, throws, no_return, Declaration, by_var, by_let}
-use Rattle.meaning.specs.Completion.{Ending, normal, break, continue, gone, spent, break_to, continue_to, return, throw, Completion, Evaluation, is_normal, is_stopped, thrown, loop_continues, without_break, without_break_to, end, ◌thereafter◌, if_normal, ◌then◌, breakable, with_label, handle, catch_by, unless_stopped, finally, one_round, if_continues, turns, loop}
-use Rattle.meaning.specs.Run.{bound_names, let_names, let_names_cases, act, eval_parts, eval, eval_optional, branch, branch_optional, bind_name, declare_one, declare, leaving, scope, scoped, renewed, while_loop, do_loop, for_body, for_loop, Clauses, fall_through, if_default, from_default, if_selected, select_case, switch, return_value, catch_clause, run, run_list, run_cases, run_body}
-use Rattle.words.specs.Tree.{Expression, expression, Declarator, Name, NameInit, Start, no_start, start_expression, start_var, start_let}
+use Rattle.std.proofs.Common.{◌≡◌, ℕ, Bool, true, false, cond, ◌&&◌, ◌||◌, List, [], ◌∷◌, sym, refl, ◌∙◌, arith}
+use Rattle.host.specs.Model.{Model, by_let}
+use Rattle.meaning.specs.Completion.{Ending, normal, break, continue, gone, spent, break_to, continue_to, return, throw, Evaluation, is_normal, is_stopped, end, if_normal, ◌then◌, finally}
+use Rattle.meaning.specs.Run.{let_names, run, run_list}
 use Rattle.words.specs.Tree.{Statement, Empty, Break, Continue, Block, Expr, Throw, Var, If, IfElse, For, While, Do, Switch, Label, BreakTo, ContinueTo, Return, TryCatch, TryFinally, TryBoth}
-use Rattle.words.specs.Tree.{Statements, none, some, Let, Cases, no_case, case}
+use Rattle.words.specs.Tree.{Statements, none, some, Let}
 use Rattle.meaning.specs.Fold.IsTerminated.{is_terminated, is_terminated_list, all_bare_vars}
 use Rattle.meaning.specs.Laws.{TerminatedNeverNormal}
 use Rattle.meaning.proofs.Within.{Within, Open, within_end, within_then, within_declare, within_eval, within_branch, within_return, within_try, within_scoped, within_finally, within_after, within_cond}
-use Rattle.meaning.proofs.Rounds.{Any, any_open, bounded, bounded_list, bounded_body, bounded_try}
+use Rattle.meaning.proofs.Rounds.{Any, any_open, bounded, bounded_body, bounded_try}
 
 abbrev pub Abrupt : Ending → Type 0
 Abrupt e = is_normal e ≡ false

@@ -1,6 +1,6 @@
 -- The witness is lawful.
-use Rattle.std.proofs.Common.{◌≡◌, ℕ, zero, suc, ◌<◌, ◌≤◌, Bool, true, false, List, [], ◌∷◌, length, Some, None, Option, sym, refl, ap, ◌∙◌, subst, arith}
-use Rattle.host.specs.Model.{Model, Lawful, Unknown, Literal, Value, World, Outcome, gives, throws, no_return}
+use Rattle.std.proofs.Common.{◌≡◌, ℕ, zero, suc, ◌≤◌, Bool, true, false, List, [], ◌∷◌, length, Some, None, Option, sym, refl, ap, ◌∙◌, arith}
+use Rattle.host.specs.Model.{Lawful, Unknown, Value, World, Outcome, gives, throws, no_return}
 use Rattle.meaning.specs.Witness.{Row, literal, giving, asking, throwing, absent, rows, row_at, is_true, row_value, truth_of_value, row_literal, row_effects, row_evaluate, witness}
 
 past_rows : (rs : List Row) (e : ℕ) → length rs ≤ e → row_at e rs ≡ absent

@@ -1,7 +1,7 @@
 -- CaseBlockEvaluation and CaseClauseIsSelected of ECMA-262 (Runtime Semantics of the switch statement), in the
 -- standard's own order of steps, completion values aside: A is the list of clauses before the default, B that of
 -- the clauses after it. `found` and `found-in-B` are the standard's, and what follows a step takes them.
-use Rattle.std.specs.Prelude.{ℕ, Bool, true, false, cond, List, [], ◌∷◌, Some, None}
+use Rattle.std.specs.Prelude.{Bool, true, false, cond, List, [], ◌∷◌, Some, None}
 use Rattle.words.specs.Tree.{Expression, Statements, Cases, no_case, case}
 use Rattle.host.specs.Model.{Model, Value}
 use Rattle.meaning.specs.Completion.{Evaluation, normal, end, ◌then◌}

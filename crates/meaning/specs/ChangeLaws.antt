@@ -6,7 +6,6 @@ use Rattle.words.specs.Tree.{Statement, Statements}
 use Rattle.words.specs.Encode.{encode, encode_body}
 use Rattle.scan.specs.Weight.{weight, weight_body}
 use Rattle.host.specs.Model.{Model, Lawful}
-use Rattle.meaning.specs.Fold.Folded.{Folded}
 use Rattle.meaning.specs.Fold.Block.{Parent}
 use Rattle.meaning.specs.Pass.{fold, pass_body, Settles}
 use Rattle.meaning.specs.Step.{step_body}

@@ -1,11 +1,11 @@
 -- Runs and folds computed by the checker, on the host of specs/Witness: expressions 0 to 3 are literals, 4, 5 and 6 (f, g
 -- and h) send their number and give the next answer, 7 and 8 send theirs and give 2 and 3, and 9 sends its and throws.
-use Rattle.std.specs.Prelude.{◌≡◌, ℕ, List, [], ◌∷◌, Some, None, Option}
-use Rattle.words.specs.Tree.{Expression, expression, Declarator, Name, NameInit, Start, no_start, start_expression, start_var, start_let}
-use Rattle.words.specs.Tree.{Statement, Empty, Break, Continue, Block, Expr, Throw, Var, If, IfElse, For, While, Do, Switch, Label, BreakTo, ContinueTo, Return, TryCatch, TryFinally, TryBoth}
-use Rattle.words.specs.Tree.{Statements, none, some, Let, Cases, no_case, case}
+use Rattle.std.specs.Prelude.{◌≡◌, ℕ, List, [], ◌∷◌, Some, None}
+use Rattle.words.specs.Tree.{Expression, expression, Name, NameInit, start_expression, start_var, start_let}
+use Rattle.words.specs.Tree.{Statement, Empty, Break, Continue, Block, Expr, Throw, Var, IfElse, For, While, Do, Switch, Label, BreakTo, ContinueTo, Return, TryCatch, TryFinally, TryBoth}
+use Rattle.words.specs.Tree.{Statements, none, some, Let, no_case, case}
 use Rattle.host.specs.Model.{World}
-use Rattle.meaning.specs.Completion.{Ending, normal, break, continue, gone, spent, break_to, continue_to, return, throw, Completion}
+use Rattle.meaning.specs.Completion.{Ending, normal, gone, spent, throw, Completion}
 use Rattle.meaning.specs.Run.{run_body}
 use Rattle.meaning.specs.Fold.Folded.{Folded, folded}
 use Rattle.meaning.specs.Fold.Block.{block_parent}

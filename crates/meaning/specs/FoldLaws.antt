@@ -1,6 +1,6 @@
 -- What folding keeps. Whatever labels are to be dropped: the rules of a script. With no labels to drop: for every
 -- lawful host its run, from every world and with any number of rounds left; for every host its hoisted names, but for granted ones.
-use Rattle.std.specs.Prelude.{◌≡◌, ℕ, ◌≤◌, Bool, true, false, List, []}
+use Rattle.std.specs.Prelude.{◌≡◌, ℕ, ◌≤◌, true, false, List, []}
 use Rattle.words.specs.Tree.{Statement, Statements}
 use Rattle.host.specs.Model.{Model, Lawful}
 use Rattle.checker.specs.Check.{Around, nowhere}

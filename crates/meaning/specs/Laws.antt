@@ -1,7 +1,7 @@
 -- What holds of every run, for every host whatever it answers: rounds are only taken, loops are what their
 -- rounds make of them, a terminated statement never ends normally, and the jumps of an accepted script stay in it.
 use Rattle.std.specs.Prelude.{◌≡◌, ℕ, ◌≤◌, true, false, List, [], Option}
-use Rattle.words.specs.Tree.{Expression, Start, Statement, Statements, For, While, Do}
+use Rattle.words.specs.Tree.{Expression, Statement, Statements, While, Do}
 use Rattle.host.specs.Model.{Model, World}
 use Rattle.checker.specs.Check.{nowhere}
 use Rattle.checker.specs.Rules.{KeepsList}

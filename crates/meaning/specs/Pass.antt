@@ -1,7 +1,7 @@
 -- Folding a script. `fold` is the fold for a statement under its parent. `pass` folds every statement after those
 -- inside it, `step` the one at a place, counted as scan/specs/Places counts; `Settles` is passing until a pass
 -- changes nothing. All take the labels to drop.
-use Rattle.std.specs.Prelude.{◌≡◌, ℕ, zero, suc, ◌+◌, ◌-◌, Bool, cond, ltb, List}
+use Rattle.std.specs.Prelude.{◌≡◌, ℕ, suc, ◌+◌, List}
 use Rattle.words.specs.Tree.{Statement, Empty, Break, Continue, Block, Expr, Throw, Var, If, IfElse, For, While, Do, Switch, Label, BreakTo, ContinueTo, Return, TryCatch, TryFinally, TryBoth}
 use Rattle.words.specs.Tree.{Statements, none, some, Let, Cases, no_case, case}
 use Rattle.host.specs.Model.{Model}

@@ -5,8 +5,8 @@ use Rattle.std.specs.Prelude.{ℕ, cond, List, [], ◌∷◌, ◌++◌, Some, No
 use Rattle.words.specs.Tree.{Expression, expression, Declarator, Name, NameInit, Start, no_start, start_expression, start_var, start_let}
 use Rattle.words.specs.Tree.{Statement, Empty, Break, Continue, Block, Expr, Throw, Var, If, IfElse, For, While, Do, Switch, Label, BreakTo, ContinueTo, Return, TryCatch, TryFinally, TryBoth}
 use Rattle.words.specs.Tree.{Statements, none, some, Let, Cases, no_case, case}
-use Rattle.host.specs.Model.{Model, Value, World, Outcome, gives, throws, no_return, Declaration, by_var, by_let}
-use Rattle.meaning.specs.Completion.{Ending, normal, break, continue, gone, spent, break_to, continue_to, return, throw, Evaluation, end, ◌thereafter◌, ◌then◌, breakable, with_label, catch_by, unless_stopped, finally, loop}
+use Rattle.host.specs.Model.{Model, Value, Outcome, gives, throws, no_return, Declaration, by_var, by_let}
+use Rattle.meaning.specs.Completion.{Ending, normal, break, continue, gone, break_to, continue_to, return, throw, Evaluation, end, ◌thereafter◌, ◌then◌, breakable, with_label, catch_by, unless_stopped, finally, loop}
 
 -- The names that declarations bind (BoundNames), and those of a list's or the cases' own Lets (LexicallyDeclaredNames).
 

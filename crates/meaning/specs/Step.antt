@@ -1,6 +1,6 @@
 -- Folding one statement of a script: the one at a place, counted from 0 in written order, a statement before those
 -- inside it and a Let of a list among them. Past the last place nothing is folded.
-use Rattle.std.specs.Prelude.{ℕ, ◌+◌, ◌-◌, cond, List, ◌==◌, nat_lt}
+use Rattle.std.specs.Prelude.{ℕ, ◌-◌, cond, List, ◌==◌, nat_lt}
 use Rattle.words.specs.Tree.{Statement, Empty, Break, Continue, Block, Expr, Throw, Var, If, IfElse, For, While, Do, Switch, Label, BreakTo, ContinueTo, Return, TryCatch, TryFinally, TryBoth}
 use Rattle.words.specs.Tree.{Statements, none, some, Let, Cases, no_case, case}
 use Rattle.host.specs.Model.{Model}

@@ -1,7 +1,7 @@
 -- A small lawful host, so that the laws of a host are consistent and runs can be computed: ten expressions, listed
 -- as rows. Commands send their number, a bound name sends itself, renewing a scope sends a mark, and name 100 alone is granted.
 use Rattle.std.specs.Prelude.{ℕ, zero, suc, Bool, true, false, cond, List, [], ◌∷◌, ◌++◌, length, Some, None, Option, ◌==◌}
-use Rattle.host.specs.Model.{Model, Value, World, Outcome, gives, throws, no_return, Declaration}
+use Rattle.host.specs.Model.{Model, Value, World, Outcome, gives, throws, no_return}
 
 -- what an expression is: a literal, a command with a known value, one that takes the next answer, or one that throws
 pub data Row : Type 0 where

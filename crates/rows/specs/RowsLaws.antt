@@ -1,10 +1,10 @@
 -- The row host keeps the laws of a host: proofs alone, with no definition that a contract cites.
-use Rattle.std.specs.Prelude.{◌≡◌, ℕ, ◌≤◌, Bool, true, false, List, [], ◌∷◌, length, is_some, Some, None, Option, slice_index_or, refl}
+use Rattle.std.specs.Prelude.{◌≡◌, ℕ, ◌≤◌, Bool, true, false, List, length, is_some, Some, None, Option, slice_index_or, refl}
 use Rattle.std.proofs.Common.{sym, ap, ◌∙◌, arith}
 use borrow.Author.Tests.{eqb-true, clash}
 use Rattle.std.specs.Option.{option_map}
 use Rattle.std.proofs.lemmas.List.{get_or_past}
-use Rattle.host.specs.Model.{Model, Lawful, Literal as LiteralOf, Unknown, Value, World, Outcome, gives, throws, no_return}
+use Rattle.host.specs.Model.{Lawful, Literal as LiteralOf, Unknown, Value, World, gives}
 use Rattle.rows.specs.declared.row.Row.{Row}
 use Rattle.rows.specs.declared.row.Row.TheVariants.{Literal, NamedConstant, Command, NextAnswer, SentCount}
 use Rattle.hosts.specs.RowWord.{literal_0, literal_1, no_row, first_bad}

@@ -1,5 +1,5 @@
 -- The words of a tree are one part, as a scan that counts the parts due goes past them.
-use Rattle.std.proofs.Common.{◌≡◌, ℕ, zero, suc, ◌+◌, ◌-◌, ◌<◌, ◌≤◌, List, [], ◌∷◌, ◌++◌, map, length, drop, Some, None, Option, sym, refl, ap, ◌∙◌, ap₂, append_assoc, arith, length-append, length-drop}
+use Rattle.std.proofs.Common.{◌≡◌, ℕ, suc, ◌+◌, List, [], ◌∷◌, ◌++◌, map, length, Some, None, Option, sym, refl, ap, ◌∙◌, ap₂, append_assoc, arith}
 use Rattle.words.specs.declared.word.Kind.TheVariants as kind
 use Rattle.words.specs.declared.word.Word.{Word}
 use Rattle.words.specs.Words.{word}
@@ -8,7 +8,7 @@ use Rattle.grammar.specs.Format.{part_count, skip}
 use Rattle.words.specs.Tree.{Expression, expression, Declarator, Name, NameInit, Start, no_start, start_expression, start_var, start_let}
 use Rattle.words.specs.Tree.{Statement, Empty, Break, Continue, Block, Expr, Throw, Var, If, IfElse, For, While, Do, Switch, Label, BreakTo, ContinueTo, Return, TryCatch, TryFinally, TryBoth}
 use Rattle.words.specs.Tree.{Statements, none, some, Let, Cases, no_case, case}
-use Rattle.words.specs.Encode.{encode_expression, encode_optional, encode_declarator, encode_declarators, encode_let, encode_var, encode_start, flag, start_flag, for_number, count, count_cases, catch_head, case_head, encode, encode_list, encode_cases, encode_body, encode_catch, encode_case}
+use Rattle.words.specs.Encode.{encode_expression, encode_optional, encode_declarator, encode_declarators, encode_let, encode_start, flag, for_number, count, count_cases, encode, encode_list, encode_cases, encode_body, encode_catch, encode_case}
 
 -- the words are n whole parts: a scan over them goes past n parts
 pub record Skips (n : ℕ) (ws : List Word) : Type 0 where

@@ -1,5 +1,5 @@
 -- The weight of a tree is the weight of its words.
-use Rattle.std.proofs.Common.{◌≡◌, ℕ, suc, ◌+◌, ◌≤◌, Bool, true, false, cond, List, [], ◌∷◌, ◌++◌, map, length, Some, None, Option, sym, refl, ap, ◌∙◌, ap₂, append_assoc, append-nil, arith}
+use Rattle.std.proofs.Common.{◌≡◌, ℕ, ◌+◌, false, cond, List, [], ◌∷◌, ◌++◌, map, length, Some, None, Option, refl, ap, ◌∙◌, append_assoc, append-nil, arith}
 use Rattle.words.specs.declared.word.Kind.TheVariants as kind
 use Rattle.words.specs.declared.word.Word.{Word}
 use Rattle.words.specs.Words.{word}
@@ -8,7 +8,7 @@ use Rattle.words.specs.Tree.{Expression, expression, Declarator, Name, NameInit,
 use Rattle.words.specs.Tree.{Statement, Empty, Break, Continue, Block, Expr, Throw, Var, If, IfElse, For, While, Do, Switch, Label, BreakTo, ContinueTo, Return, TryCatch, TryFinally, TryBoth}
 use Rattle.words.specs.Tree.{Statements, none, some, Let, Cases, no_case, case}
 use Rattle.words.specs.Encode.{encode_expression, encode_optional, encode_declarator, encode_declarators, encode_start, count, catch_head, case_head, encode, encode_list, encode_cases, encode_body}
-use Rattle.scan.specs.Weight.{one_case, statement, weight_expression, test_weight, weight_optional, weight_declarator, weight_declarators, weight_start, weight_catch, weight, weight_list, weight_cases, weight_body, weight_kind, test_words, weight_first, weight_words}
+use Rattle.scan.specs.Weight.{one_case, statement, weight_expression, test_weight, weight_optional, weight_declarator, weight_declarators, weight_start, weight_catch, weight, weight_list, weight_cases, weight_body, weight_kind, test_words, weight_words}
 
 -- the words weigh n, whatever comes after them
 record Weighs (ws : List Word) (n : ℕ) : Type 0 where

@@ -1,15 +1,14 @@
 -- Statement places (docs/FORMAT.md, "Places"): the statements of a script, counted from 0 in written order, a
 -- statement before those inside it, a Let of a list among them. Bodies, catches and cases have no place, nor has
 -- a For's declaration.
-use Rattle.std.specs.Prelude.{ℕ, zero, suc, ◌+◌, Bool, true, false, cond, List, [], ◌∷◌, ◌++◌, length, Some, None, Option, ◌==◌}
-use Rattle.words.specs.declared.word.Kind.{Kind}
+use Rattle.std.specs.Prelude.{ℕ, zero, suc, ◌+◌, Bool, false, cond, List, [], ◌∷◌, ◌++◌, length, Some, None, Option, ◌==◌}
 use Rattle.words.specs.declared.word.Kind.TheVariants as kind
 use Rattle.words.specs.declared.word.Word.{Word}
 use Rattle.words.specs.Words.{for_declaration, has}
 use Rattle.words.specs.Words.{from_to}
 use Rattle.words.specs.Tree.{Statement, Empty, Break, Continue, Block, Expr, Throw, Var, If, IfElse, For, While, Do, Switch, Label, BreakTo, ContinueTo, Return, TryCatch, TryFinally, TryBoth}
 use Rattle.words.specs.Tree.{Statements, none, some, Let, Cases, no_case, case}
-use Rattle.words.specs.Encode.{encode_expression, encode_optional, encode_start, encode_let, encode, encode_list, encode_body, encode_catch, encode_case, catch_head, case_head, count}
+use Rattle.words.specs.Encode.{encode_expression, encode_optional, encode_start, encode_let, encode, encode_body, encode_catch, encode_case, catch_head, case_head, count}
 
 -- By the tree: the words where the statements of a part begin, given the word i where the part begins.
 abbrev mutual

@@ -3,7 +3,7 @@
 use Rattle.std.specs.Prelude.{◌≡◌, ℕ, ◌+◌, ◌-◌, List, ◌++◌, length, drop, Option}
 use Rattle.words.specs.declared.word.Word.{Word}
 use Rattle.grammar.specs.Format.{skip}
-use Rattle.words.specs.Tree.{Expression, Declarator, Statement, Statements}
+use Rattle.words.specs.Tree.{Expression, Statements}
 use Rattle.words.specs.Encode.{encode_expression, encode_declarator, encode, encode_body, encode_case}
 
 -- a test, or none for Default, and the statements of a case

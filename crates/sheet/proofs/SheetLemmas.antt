@@ -1,6 +1,6 @@
 -- Accepted sheets: each expression is made from its row, and what the questions look up is what the
 -- model has.
-use Rattle.std.proofs.Common.{◌≡◌, ℕ, ◌+◌, ◌<◌, ◌≤◌, Bool, true, false, cond, not, ◌&&◌, ◌||◌, eqb, ltb, List, [], ◌∷◌, length, get_or, ℤ, pos, is_some, Some, None, Option, sym, refl, ap, ◌∙◌, arith, ltb-false, ltb-true}
+use Rattle.std.proofs.Common.{◌≡◌, ℕ, ◌+◌, ◌<◌, ◌≤◌, Bool, true, false, cond, not, ◌&&◌, ◌||◌, eqb, ltb, List, length, get_or, ℤ, pos, is_some, Some, None, Option, sym, refl, ap, ◌∙◌, arith, ltb-false, ltb-true}
 use mathlib.Core.Bool.{beq}
 use borrow.Author.Tests.{clash}
 use Rattle.std.specs.List.{slice_get}
@@ -14,12 +14,11 @@ use Rattle.values.specs.declared.sheet_value.SheetValue.TheVariants.{Yes}
 use Rattle.hosts.specs.RowWord.{no_row, first_bad}
 use Rattle.hosts.specs.RowLaws.{accepted_rows, each_allowed}
 use Rattle.values.specs.Strict.{LanguageValue, boolean, to_boolean, is_strictly_equal}
-use Rattle.host.specs.Model.{Value}
 use Rattle.values.specs.SheetValues.{language, boolean_value, listed, sheet_meaning}
 use Rattle.sheet.specs.SheetRows.{sheet_row_of, sheet_row_at, is_comparable, operand_allowed, kind_allowed, is_whole, literal_of_whole, sheet_row_allowed, sheet_refused}
 use Rattle.sheet.specs.SheetModel.{Expression, unknown_expression, entry_expression, false_expression, falsehood, equal_expression, known_equality, expression_of, sheet_expression, EachFromItsRow}
 use Rattle.sheet.specs.SheetAnswers.{false_operand_lem, entry_of, compared, end_value_lem, is_command_lem, end_effects_lem, is_literal_row_lem, negate_when, known_truth, Follows}
-use Rattle.sheet.specs.SheetLaws.{Before, rows_here, past_rows}
+use Rattle.sheet.specs.SheetLaws.{rows_here, past_rows}
 
 -- what an accepted row says of what it looks at
 abbrev Fine : List ℕ → List SheetValue → ℕ → Option SheetRow → Type 0

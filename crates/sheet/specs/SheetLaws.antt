@@ -1,10 +1,10 @@
 -- A sheet keeps the laws of a host: proofs alone, with no definition that a contract cites.
-use Rattle.std.specs.Prelude.{◌≡◌, ℕ, zero, suc, ◌+◌, ◌-◌, ◌<◌, ◌≤◌, Bool, true, false, cond, not, ◌&&◌, ◌||◌, List, [], ◌∷◌, ◌++◌, length, ℤ, pos, negsuc, is_some, Some, None, Option, ◌==◌, ◌≢◌, slice_index_or, refl}
+use Rattle.std.specs.Prelude.{◌≡◌, ℕ, zero, suc, ◌+◌, ◌<◌, ◌≤◌, Bool, true, false, cond, ◌||◌, List, [], ◌∷◌, ◌++◌, length, pos, negsuc, is_some, Some, None, Option, ◌==◌, ◌≢◌, slice_index_or, refl}
 use Rattle.std.proofs.Common.{sym, ap, ◌∙◌, arith}
-use borrow.Author.Tests.{ltb-true, eqb-true, eq-eqb, ne_eqb, clash}
+use borrow.Author.Tests.{eqb-true, eq-eqb, ne_eqb, clash}
 use Rattle.std.specs.List.{slice_get}
 use Rattle.std.specs.Option.{option_map}
-use Rattle.host.specs.Model.{Model, Lawful, Literal as LiteralOf, Unknown, Value, World, Outcome, gives, throws, no_return}
+use Rattle.host.specs.Model.{Lawful, Literal as LiteralOf, Unknown, Value, World, Outcome, gives, throws, no_return}
 use Rattle.sheet.specs.declared.sheet_row.SheetRow.{SheetRow}
 use Rattle.sheet.specs.declared.sheet_row.SheetRow.TheVariants.{Literal, Named, IsFalse, AreEqual, Command}
 use Rattle.values.specs.declared.sheet_value.SheetValue.{SheetValue}
@@ -12,10 +12,10 @@ use Rattle.values.specs.declared.sheet_value.SheetValue.TheVariants.{Yes, No, Nu
 use Rattle.hosts.specs.RowWord.{no_row, first_bad}
 use Rattle.hosts.specs.RowLaws.{accepted_rows, each_allowed}
 use Rattle.hosts.specs.Common.{and_then, map_outcome}
-use Rattle.values.specs.Strict.{LanguageValue, boolean, number, text, integer, minus_zero, not_a_number, is_strictly_equal, to_boolean, same_integer}
-use Rattle.values.specs.SheetValues.{language, listed, read_value, truth_of, equality_of, sheet_truthy, sheet_equal, MeaningsOfValues}
+use Rattle.values.specs.Strict.{LanguageValue, boolean, number, text, integer, minus_zero, not_a_number, to_boolean}
+use Rattle.values.specs.SheetValues.{language, listed, read_value, truth_of, equality_of, sheet_truthy, MeaningsOfValues}
 use Rattle.sheet.specs.SheetRows.{sheet_row_of, sheet_row_at, is_whole, literal_of_whole, sheet_row_allowed, sheet_refused}
-use Rattle.sheet.specs.SheetModel.{Expression, unknown_expression, entry_expression, false_expression, falsehood, equal_expression, equality, known_equality, command_expression, answer_outcome, expression_of, with_expression, with_rows, sheet_expression, sheet_model, without_last}
+use Rattle.sheet.specs.SheetModel.{Expression, unknown_expression, entry_expression, false_expression, falsehood, equal_expression, equality, known_equality, command_expression, expression_of, with_expression, with_rows, sheet_expression, sheet_model, without_last}
 
 read_inverts : (v : LanguageValue) → read_value (listed v) ≡ Some v
 read_inverts (boolean true) = refl

@@ -4,7 +4,7 @@
 use Rattle.std.specs.Prelude.{◌≡◌, ℕ, ◌+◌, Bool, true, false, cond, not, ◌||◌, List, [], ◌∷◌, ◌++◌, length, pos, Some, None, Option, ◌==◌, nat_le}
 use Rattle.std.specs.List.{slice_get}
 use Rattle.std.specs.Option.{option_map}
-use Rattle.host.specs.Model.{Model, Value, World, Outcome, gives, throws, no_return}
+use Rattle.host.specs.Model.{Model, World, Outcome, gives, no_return}
 use Rattle.sheet.specs.declared.sheet_row.SheetRow.{SheetRow}
 use Rattle.sheet.specs.declared.sheet_row.SheetRow.TheVariants.{Literal, Named, IsFalse, AreEqual, Command}
 use Rattle.values.specs.declared.sheet_value.SheetValue.{SheetValue}

@@ -1,5 +1,5 @@
 -- Bytes of numbers and texts: one step, two halves, and that equal bytes are equal numbers.
-use Rattle.std.proofs.Common.{◌≡◌, ℕ, zero, suc, ◌+◌, ◌-◌, ◌*◌, ◌/◌, ◌%◌, ◌^◌, ◌<◌, ◌≤◌, Bool, true, false, ◌&&◌, eqb, List, [], ◌∷◌, ◌++◌, length, take, drop, Some, None, Option, sym, refl, ap, ◌∙◌, subst, suc-add, one-mul, pow-suc, div-add-mod', zero-add, mul_right_comm, arith, lit<, eq-eqb, ne_eqb, eqb-true, le-leb}
+use Rattle.std.proofs.Common.{◌≡◌, ℕ, zero, suc, ◌+◌, ◌-◌, ◌*◌, ◌/◌, ◌%◌, ◌^◌, ◌<◌, ◌≤◌, Bool, true, false, ◌&&◌, eqb, List, [], ◌∷◌, ◌++◌, length, take, drop, Some, sym, refl, ap, ◌∙◌, suc-add, one-mul, pow-suc, div-add-mod', zero-add, mul_right_comm, arith, lit<, eq-eqb, eqb-true, le-leb}
 use native.Mathlib.Nat.{add-mul-mod_self_right, add-mul-div_right, pow-zero, pow-le-pow_right}
 use lib.Arith.{digits_div, digits_mod, digits_lt}
 use borrow.Author.Tests.{clash}

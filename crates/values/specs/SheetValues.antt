@@ -1,7 +1,7 @@
 -- What the values of a sheet are: language values, and lists of whole numbers that tell them apart.
 -- `read_value` reads a list back, so that truth and strict equality of lists are ToBoolean and
 -- IsStrictlyEqual of the values that they stand for.
-use Rattle.std.specs.Prelude.{◌≡◌, ℕ, Bool, true, false, cond, List, [], ◌∷◌, ℤ, pos, negsuc, Some, None, Option, ◌==◌}
+use Rattle.std.specs.Prelude.{◌≡◌, ℕ, Bool, true, false, cond, List, [], ◌∷◌, pos, negsuc, Some, None, Option, ◌==◌}
 use Rattle.values.specs.declared.sheet_value.SheetValue.{SheetValue}
 use Rattle.values.specs.declared.sheet_value.SheetValue.TheVariants.{Yes, No, Number as Whole, MinusZero, NotANumber, Text as TextOf}
 use Rattle.values.specs.declared.text.Text.{Text}

@@ -1,19 +1,14 @@
 -- The fold of a Block: what it makes keeps the rules and runs as before.
-use Rattle.std.proofs.Common.{◌≡◌, ℕ, zero, suc, ◌+◌, ◌<◌, ◌≤◌, Bool, true, false, cond, not, ◌&&◌, ◌||◌, List, [], ◌∷◌, ◌++◌, map, Some, None, Option, sym, refl, ap, ◌∙◌, subst, arith}
-use mathlib.Core.Path.{fun_ext}
-use Rattle.host.specs.Model.{Model, Lawful, Value, World, Outcome, gives, throws, no_return, Declaration, by_var, by_let}
-use Rattle.host.specs.Sequence.{parts_of, last_number, ask, truth_of, value_of, effects_of, literal_of}
-use Rattle.meaning.specs.Completion.{Ending, normal, break, continue, gone, spent, break_to, continue_to, return, throw, Completion, Evaluation, is_normal, is_stopped, thrown, loop_continues, without_break, without_break_to, end, ◌thereafter◌, if_normal, ◌then◌, breakable, with_label, handle, catch_by, unless_stopped, finally, one_round, if_continues, turns, loop}
-use Rattle.meaning.specs.Run.{bound_names, let_names, let_names_cases, act, eval_parts, eval, eval_optional, branch, branch_optional, bind_name, declare_one, declare, leaving, scope, scoped, renewed, while_loop, do_loop, for_body, for_loop, Clauses, fall_through, if_default, from_default, if_selected, select_case, switch, return_value, catch_clause, run, run_list, run_cases, run_body}
-use Rattle.words.specs.Tree.{Expression, expression, Declarator, Name, NameInit, Start, no_start, start_expression, start_var, start_let}
-use Rattle.words.specs.Tree.{Statement, Empty, Break, Continue, Block, Expr, Throw, Var, If, IfElse, For, While, Do, Switch, Label, BreakTo, ContinueTo, Return, TryCatch, TryFinally, TryBoth}
-use Rattle.words.specs.Tree.{Statements, none, some, Let, Cases, no_case, case}
-use Rattle.checker.specs.Check.{Around, depth_limit}
-use Rattle.slices.specs.Among.{among}
-use Rattle.checker.specs.Rules.{Keeps, KeepsList, KeepsCases, Known, KnownOptional, KnownDeclarators, KnownStart, AllBelow, inside, loop_body, switch_case, labelled, listed, OneDefault, NoDefault}
+use Rattle.std.proofs.Common.{◌≡◌, ℕ, Bool, true, false, cond, sym, refl, ◌∙◌}
+use Rattle.host.specs.Model.{Model}
+use Rattle.meaning.specs.Run.{scoped, run}
+use Rattle.words.specs.Tree.{Empty, Block}
+use Rattle.words.specs.Tree.{Statements, none, some, Let}
+use Rattle.checker.specs.Check.{Around}
+use Rattle.checker.specs.Rules.{Keeps, inside}
 use Rattle.meaning.specs.FoldLaws.{Sound}
-use Rattle.meaning.proofs.Surroundings.{Wider, widen, widen_list, wider_out, keeps_deep, run_out}
-use Rattle.meaning.specs.Fold.Folded.{Folded, folded, unchanged, changed}
+use Rattle.meaning.proofs.Surroundings.{widen, wider_out, run_out}
+use Rattle.meaning.specs.Fold.Folded.{unchanged, changed}
 use Rattle.meaning.specs.Fold.Block.{Parent, empties, stays_inside, try_optimize_block}
 use Rattle.meaning.proofs.Sequencing.{then_normal}
 

@@ -1,23 +1,22 @@
 -- The folds of Block, For, Label and Try pay for their changes.
-use Rattle.std.proofs.Common.{◌≡◌, ℕ, zero, suc, ◌+◌, ◌<◌, ◌≤◌, Bool, true, false, cond, not, ◌&&◌, ◌||◌, List, [], ◌∷◌, ◌++◌, map, length, Some, None, Option, sym, refl, ap, ◌∙◌, subst, arith}
-use mathlib.Core.Path.{fun_ext}
-use Rattle.host.specs.Model.{Model, Lawful, Value, World, Outcome, gives, throws, no_return, Declaration, by_var, by_let}
-use Rattle.host.specs.Sequence.{parts_of, last_number, ask, truth_of, value_of, effects_of, literal_of}
-use Rattle.words.specs.Tree.{Expression, expression, Declarator, Name, NameInit, Start, no_start, start_expression, start_var, start_let}
-use Rattle.words.specs.Tree.{Statement, Empty, Break, Continue, Block, Expr, Throw, Var, If, IfElse, For, While, Do, Switch, Label, BreakTo, ContinueTo, Return, TryCatch, TryFinally, TryBoth}
-use Rattle.words.specs.Tree.{Statements, none, some, Let, Cases, no_case, case}
-use Rattle.scan.specs.Weight.{weight_expression, test_weight, weight_optional, weight_declarators, weight_catch}
-use Rattle.meaning.proofs.Measure.{Scale, own, measure_start, measure, measure_list, measure_cases, at_least_one, expression_one, stub_cost, cost_least, cost_more, cost_apart, names_cost, list_cost, names_less, names_weight, append_weight, granted_length, length_append}
+use Rattle.std.proofs.Common.{◌≡◌, ℕ, ◌+◌, ◌≤◌, Bool, true, false, cond, List, ◌∷◌, ◌++◌, map, length, Some, None, Option, sym, refl, ap, ◌∙◌, subst, arith}
+use Rattle.host.specs.Model.{Model}
+use Rattle.host.specs.Sequence.{parts_of, truth_of, effects_of}
+use Rattle.words.specs.Tree.{Expression, Name, Start, no_start, start_expression, start_var, start_let}
+use Rattle.words.specs.Tree.{Statement, Empty, Block, For, Label, TryCatch, TryFinally, TryBoth}
+use Rattle.words.specs.Tree.{Statements, none, some, Let}
+use Rattle.scan.specs.Weight.{weight_expression, weight_optional, weight_declarators, weight_catch}
+use Rattle.meaning.proofs.Measure.{Scale, measure_start, measure, measure_list, at_least_one, expression_one, stub_cost, cost_least, cost_apart, names_cost, list_cost, names_less, append_weight, length_append}
 use Rattle.meaning.proofs.Evaluations.{append_nil}
-use Rattle.meaning.specs.Fold.Folded.{Folded, folded, unchanged, changed, if_so, plus_changes}
-use Rattle.meaning.specs.Fold.KeepVar.{keep_var, keep_list, stub_var, stub_or_empty, stub_list}
+use Rattle.meaning.specs.Fold.Folded.{Folded, unchanged, changed, plus_changes}
+use Rattle.meaning.specs.Fold.KeepVar.{keep_var, keep_list, stub_or_empty, stub_list}
 use Rattle.meaning.specs.Fold.IsTerminated.{is_bare_var}
 use Rattle.meaning.specs.Fold.Block.{Parent, empties, stays_inside, try_optimize_block}
 use Rattle.meaning.specs.Fold.For.{drop_start, drop_update, never_entered, fold_for_truth, fold_for_test, try_fold_for}
 use Rattle.slices.specs.Among.{among}
 use Rattle.meaning.specs.Fold.Labeled.{is_idle, try_fold_labeled}
-use Rattle.meaning.specs.Fold.Try.{is_cleared, clear_catch, fold_catch, finish_catch, keep_finalizer, finish_both, try_fold_catch, try_fold_finally, try_fold_both}
-use Rattle.meaning.proofs.Bound.{Bound, bound_same, bound_changed, bound_either, impossible, zero_left, zero_right, stub_var_measure, stub_list_measure, stub_or_empty_measure}
+use Rattle.meaning.specs.Fold.Try.{clear_catch, fold_catch, finish_catch, keep_finalizer, finish_both, try_fold_catch, try_fold_finally, try_fold_both}
+use Rattle.meaning.proofs.Bound.{Bound, bound_same, bound_changed, bound_either, impossible, zero_left, zero_right, stub_list_measure, stub_or_empty_measure}
 
 module _ (z : Scale) where
   pub block_bound : (p : Parent) (ss : Statements) → Bound z (Block ss) (try_optimize_block p ss)

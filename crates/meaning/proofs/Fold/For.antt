@@ -1,22 +1,20 @@
 -- The fold of a For: what it makes keeps the rules and runs as before.
-use Rattle.std.proofs.Common.{◌≡◌, ℕ, zero, suc, ◌+◌, ◌<◌, ◌≤◌, Bool, true, false, cond, not, ◌&&◌, ◌||◌, List, [], ◌∷◌, ◌++◌, map, Some, None, Option, sym, refl, ap, ◌∙◌, subst, arith}
+use Rattle.std.proofs.Common.{◌≡◌, ℕ, ◌+◌, ◌≤◌, Bool, true, false, cond, List, [], ◌∷◌, ◌++◌, map, Some, None, Option, sym, refl, ap, ◌∙◌}
 use mathlib.Core.Path.{fun_ext}
-use Rattle.host.specs.Model.{Model, Lawful, Value, World, Outcome, gives, throws, no_return, Declaration, by_var, by_let}
-use Rattle.host.specs.Sequence.{parts_of, last_number, ask, truth_of, value_of, effects_of, literal_of}
-use Rattle.meaning.specs.Completion.{Ending, normal, break, continue, gone, spent, break_to, continue_to, return, throw, Completion, Evaluation, is_normal, is_stopped, thrown, loop_continues, without_break, without_break_to, end, ◌thereafter◌, if_normal, ◌then◌, breakable, with_label, handle, catch_by, unless_stopped, finally, one_round, if_continues, turns, loop}
-use Rattle.meaning.specs.Run.{bound_names, let_names, let_names_cases, act, eval_parts, eval, eval_optional, branch, branch_optional, bind_name, declare_one, declare, leaving, scope, scoped, renewed, while_loop, do_loop, for_body, for_loop, Clauses, fall_through, if_default, from_default, if_selected, select_case, switch, return_value, catch_clause, run, run_list, run_cases, run_body}
-use Rattle.words.specs.Tree.{Expression, expression, Declarator, Name, NameInit, Start, no_start, start_expression, start_var, start_let}
-use Rattle.words.specs.Tree.{Statement, Empty, Break, Continue, Block, Expr, Throw, Var, If, IfElse, For, While, Do, Switch, Label, BreakTo, ContinueTo, Return, TryCatch, TryFinally, TryBoth}
-use Rattle.words.specs.Tree.{Statements, none, some, Let, Cases, no_case, case}
+use Rattle.host.specs.Model.{Model, Lawful, Declaration, by_var, by_let}
+use Rattle.host.specs.Sequence.{parts_of, truth_of, effects_of}
+use Rattle.meaning.specs.Completion.{normal, Evaluation, end, ◌then◌, loop}
+use Rattle.meaning.specs.Run.{bound_names, let_names, eval, eval_optional, branch, branch_optional, bind_name, declare_one, declare, scope, scoped, renewed, for_body, for_loop, run}
+use Rattle.words.specs.Tree.{Expression, Declarator, Name, NameInit, Start, no_start, start_expression, start_var, start_let}
+use Rattle.words.specs.Tree.{Statement, For}
 use Rattle.checker.specs.Check.{Around, depth_limit}
-use Rattle.slices.specs.Among.{among}
-use Rattle.checker.specs.Rules.{Keeps, KeepsList, KeepsCases, Known, KnownOptional, KnownDeclarators, KnownStart, AllBelow, inside, loop_body, switch_case, labelled, listed, OneDefault, NoDefault}
-use Rattle.meaning.proofs.Surroundings.{Wider, widen, widen_list, wider_out, keeps_deep, run_out}
-use Rattle.meaning.specs.Fold.Folded.{Folded, folded, unchanged, changed, plus_changes}
-use Rattle.meaning.specs.Fold.KeepVar.{keep_var, stub_or_empty, stub_list}
+use Rattle.checker.specs.Rules.{Keeps, KnownOptional, KnownStart, inside, loop_body}
+use Rattle.meaning.proofs.Surroundings.{keeps_deep}
+use Rattle.meaning.specs.Fold.Folded.{unchanged, changed}
+use Rattle.meaning.specs.Fold.KeepVar.{keep_var, stub_list}
 use Rattle.meaning.specs.Fold.For.{drop_start, drop_update, never_entered, fold_for_truth, fold_for_test, try_fold_for}
 use Rattle.meaning.proofs.Sequencing.{then_normal, names_idle, run_stub_or_empty, run_stub_list, lets_stub_list}
-use Rattle.meaning.proofs.Evaluations.{all_then, eval_truth, eval_idle, all_idle}
+use Rattle.meaning.proofs.Evaluations.{eval_truth, eval_idle, all_idle}
 use Rattle.meaning.proofs.Keeps.{keeps_stub_or_empty, keeps_stub_list, known_append, known_names}
 
 module _ (m : Model) where

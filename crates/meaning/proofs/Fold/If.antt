@@ -1,23 +1,21 @@
 -- The fold of an If: what it makes keeps the rules and runs as before.
-use Rattle.std.proofs.Common.{◌≡◌, ℕ, zero, suc, ◌+◌, ◌<◌, ◌≤◌, Bool, true, false, cond, not, ◌&&◌, ◌||◌, List, [], ◌∷◌, ◌++◌, map, Some, None, Option, sym, refl, ap, ◌∙◌, subst, le_trans, arith}
-use mathlib.Core.Path.{fun_ext}
-use Rattle.host.specs.Model.{Model, Lawful, Value, World, Outcome, gives, throws, no_return, Declaration, by_var, by_let}
-use Rattle.host.specs.Sequence.{parts_of, last_number, ask, truth_of, value_of, effects_of, literal_of}
-use Rattle.meaning.specs.Completion.{Ending, normal, break, continue, gone, spent, break_to, continue_to, return, throw, Completion, Evaluation, is_normal, is_stopped, thrown, loop_continues, without_break, without_break_to, end, ◌thereafter◌, if_normal, ◌then◌, breakable, with_label, handle, catch_by, unless_stopped, finally, one_round, if_continues, turns, loop}
-use Rattle.meaning.specs.Run.{bound_names, let_names, let_names_cases, act, eval_parts, eval, eval_optional, branch, branch_optional, bind_name, declare_one, declare, leaving, scope, scoped, renewed, while_loop, do_loop, for_body, for_loop, Clauses, fall_through, if_default, from_default, if_selected, select_case, switch, return_value, catch_clause, run, run_list, run_cases, run_body}
-use Rattle.words.specs.Tree.{Expression, expression, Declarator, Name, NameInit, Start, no_start, start_expression, start_var, start_let}
+use Rattle.std.proofs.Common.{◌≡◌, ℕ, ◌≤◌, Bool, true, false, cond, not, ◌||◌, List, [], ◌∷◌, Some, None, Option, sym, refl, ap, ◌∙◌, arith}
+use Rattle.host.specs.Model.{Model, Lawful}
+use Rattle.host.specs.Sequence.{parts_of, truth_of, effects_of}
+use Rattle.meaning.specs.Completion.{normal, Evaluation, end}
+use Rattle.meaning.specs.Run.{branch, scoped, run}
+use Rattle.words.specs.Tree.{Expression}
 use Rattle.words.specs.Tree.{Statement, Empty, Break, Continue, Block, Expr, Throw, Var, If, IfElse, For, While, Do, Switch, Label, BreakTo, ContinueTo, Return, TryCatch, TryFinally, TryBoth}
-use Rattle.words.specs.Tree.{Statements, none, some, Let, Cases, no_case, case}
+use Rattle.words.specs.Tree.{none, some, Let}
 use Rattle.checker.specs.Check.{Around, depth_limit}
-use Rattle.slices.specs.Among.{among}
-use Rattle.checker.specs.Rules.{Keeps, KeepsList, KeepsCases, Known, KnownOptional, KnownDeclarators, KnownStart, AllBelow, inside, loop_body, switch_case, labelled, listed, OneDefault, NoDefault}
+use Rattle.checker.specs.Rules.{Keeps, Known, inside}
 use Rattle.meaning.specs.FoldLaws.{Sound}
-use Rattle.meaning.proofs.Surroundings.{Wider, widen, widen_list, wider_out, keeps_deep, run_out}
-use Rattle.meaning.specs.Fold.Folded.{Folded, folded, unchanged, changed, if_so, plus_changes}
+use Rattle.meaning.proofs.Surroundings.{widen, wider_out, keeps_deep, run_out}
+use Rattle.meaning.specs.Fold.Folded.{folded, unchanged, changed, if_so}
 use Rattle.meaning.specs.Fold.KeepVar.{keep_var, stub_var}
 use Rattle.meaning.specs.Fold.IsTerminated.{is_bare_var}
-use Rattle.meaning.specs.Fold.If.{if_statement, literal_number, literal_test, is_literal_test, is_empty, or_empty, keep_optional, is_present, stub_branch, stub_alternate, not_granted, write_test, drop_alternate, drop_consequent, fold_true, fold_false, fold_test, fold_parts, as_alternate, fold_alternate, try_fold_if, try_fold_if_else}
-use Rattle.meaning.proofs.Evaluations.{all_then, eval_truth, eval_all, all_idle}
+use Rattle.meaning.specs.Fold.If.{if_statement, literal_test, is_literal_test, is_empty, or_empty, keep_optional, is_present, stub_branch, stub_alternate, not_granted, write_test, fold_true, fold_false, fold_test, fold_alternate, try_fold_if, try_fold_if_else}
+use Rattle.meaning.proofs.Evaluations.{all_then, eval_truth, all_idle}
 use Rattle.meaning.proofs.Keeps.{keeps_stub_var}
 
 -- an alternate that may be absent

@@ -1,18 +1,17 @@
 -- The fold of an If pays for its changes, for a lawful host: expressions 0 and 1 have their own truth.
-use Rattle.std.proofs.Common.{◌≡◌, ℕ, zero, suc, ◌+◌, ◌<◌, ◌≤◌, Bool, true, false, cond, not, ◌&&◌, ◌||◌, eqb, leb, List, [], ◌∷◌, ◌++◌, map, length, Some, None, Option, sym, refl, ap, ◌∙◌, subst, arith, eqb→eq, leb→le}
-use mathlib.Core.Path.{fun_ext}
-use Rattle.host.specs.Model.{Model, Lawful, Value, World, Outcome, gives, throws, no_return, Declaration, by_var, by_let}
-use Rattle.host.specs.Sequence.{parts_of, last_number, ask, truth_of, value_of, effects_of, literal_of}
-use Rattle.words.specs.Tree.{Expression, expression, Declarator, Name, NameInit, Start, no_start, start_expression, start_var, start_let}
+use Rattle.std.proofs.Common.{◌≡◌, ℕ, zero, suc, ◌+◌, ◌≤◌, Bool, true, false, cond, not, eqb, leb, List, [], ◌∷◌, length, Some, None, Option, sym, refl, ap, ◌∙◌, subst, arith, eqb→eq, leb→le}
+use Rattle.host.specs.Model.{Model, Lawful}
+use Rattle.host.specs.Sequence.{parts_of, truth_of, effects_of}
+use Rattle.words.specs.Tree.{Expression, expression}
 use Rattle.words.specs.Tree.{Statement, Empty, Break, Continue, Block, Expr, Throw, Var, If, IfElse, For, While, Do, Switch, Label, BreakTo, ContinueTo, Return, TryCatch, TryFinally, TryBoth}
-use Rattle.words.specs.Tree.{Statements, none, some, Let, Cases, no_case, case}
-use Rattle.scan.specs.Weight.{weight_expression, test_weight, weight_optional, weight_declarators, weight_catch}
-use Rattle.meaning.proofs.Measure.{Scale, own, measure_start, measure, measure_list, measure_cases, at_least_one, expression_one, stub_cost, cost_least, cost_more, cost_apart, names_cost, list_cost, names_less, names_weight, append_weight, granted_length, length_append}
+use Rattle.words.specs.Tree.{none, some, Let}
+use Rattle.scan.specs.Weight.{weight_expression, test_weight}
+use Rattle.meaning.proofs.Measure.{Scale, own, measure, at_least_one, expression_one, stub_cost, cost_more, names_less, granted_length}
 use Rattle.meaning.specs.Fold.Folded.{Folded, folded, unchanged, changed, if_so, plus_changes}
 use Rattle.meaning.specs.Fold.KeepVar.{keep_var, stub_var}
 use Rattle.meaning.specs.Fold.IsTerminated.{is_bare_var}
-use Rattle.meaning.specs.Fold.If.{if_statement, literal_number, literal_test, is_literal_test, is_empty, or_empty, keep_optional, is_present, stub_branch, stub_alternate, not_granted, write_test, drop_alternate, drop_consequent, fold_true, fold_false, fold_test, fold_parts, as_alternate, fold_alternate, try_fold_if, try_fold_if_else}
-use Rattle.meaning.proofs.Bound.{Bound, bound_same, impossible, zero_left, zero_right, stub_var_measure}
+use Rattle.meaning.specs.Fold.If.{if_statement, literal_number, literal_test, is_literal_test, is_empty, or_empty, keep_optional, is_present, stub_branch, stub_alternate, not_granted, write_test, fold_true, fold_false, fold_test, fold_parts, as_alternate, fold_alternate, try_fold_if, try_fold_if_else}
+use Rattle.meaning.proofs.Bound.{Bound, impossible, zero_left, zero_right, stub_var_measure}
 
 module _ (z : Scale) where
   abbrev measure_optional : Option Statement → ℕ

@@ -1,21 +1,15 @@
 -- Selection: what it makes runs as before.
-use Rattle.std.proofs.Common.{◌≡◌, ℕ, zero, suc, ◌+◌, ◌<◌, ◌≤◌, Bool, true, false, cond, not, ◌&&◌, ◌||◌, List, [], ◌∷◌, ◌++◌, map, Some, None, Option, sym, refl, ap, ◌∙◌, subst, arith}
-use mathlib.Core.Path.{fun_ext}
-use Rattle.host.specs.Model.{Model, Lawful, Value, World, Outcome, gives, throws, no_return, Declaration, by_var, by_let}
-use Rattle.host.specs.Sequence.{parts_of, last_number, ask, truth_of, value_of, effects_of, literal_of}
-use Rattle.meaning.specs.Completion.{Ending, normal, break, continue, gone, spent, break_to, continue_to, return, throw, Completion, Evaluation, is_normal, is_stopped, thrown, loop_continues, without_break, without_break_to, end, ◌thereafter◌, if_normal, ◌then◌, breakable, with_label, handle, catch_by, unless_stopped, finally, one_round, if_continues, turns, loop}
-use Rattle.meaning.specs.Run.{bound_names, let_names, let_names_cases, act, eval_parts, eval, eval_optional, branch, branch_optional, bind_name, declare_one, declare, leaving, scope, scoped, renewed, while_loop, do_loop, for_body, for_loop, Clauses, fall_through, if_default, from_default, if_selected, select_case, switch, return_value, catch_clause, run, run_list, run_cases, run_body}
-use Rattle.words.specs.Tree.{Expression, expression, Declarator, Name, NameInit, Start, no_start, start_expression, start_var, start_let}
-use Rattle.words.specs.Tree.{Statement, Empty, Break, Continue, Block, Expr, Throw, Var, If, IfElse, For, While, Do, Switch, Label, BreakTo, ContinueTo, Return, TryCatch, TryFinally, TryBoth}
-use Rattle.words.specs.Tree.{Statements, none, some, Let, Cases, no_case, case}
-use Rattle.checker.specs.Check.{Around, depth_limit}
-use Rattle.slices.specs.Among.{among}
-use Rattle.checker.specs.Rules.{Keeps, KeepsList, KeepsCases, Known, KnownOptional, KnownDeclarators, KnownStart, AllBelow, inside, loop_body, switch_case, labelled, listed, OneDefault, NoDefault}
-use Rattle.meaning.proofs.Surroundings.{Wider, widen, widen_list, wider_out, keeps_deep, run_out}
-use Rattle.meaning.specs.Fold.Folded.{Folded, folded, unchanged, changed}
-use Rattle.meaning.specs.Fold.KeepVar.{keep_list, stub_list}
+use Rattle.std.proofs.Common.{◌≡◌, ℕ, zero, suc, Bool, true, false, cond, ◌&&◌, ◌||◌, List, [], ◌∷◌, ◌++◌, Some, None, Option, sym, refl, ap, ◌∙◌, arith}
+use Rattle.host.specs.Model.{Model, Lawful, Value}
+use Rattle.host.specs.Sequence.{parts_of, value_of, effects_of}
+use Rattle.meaning.specs.Completion.{normal, Evaluation, end, ◌then◌, breakable}
+use Rattle.meaning.specs.Run.{let_names, let_names_cases, eval, scoped, fall_through, if_default, from_default, if_selected, select_case, switch, run, run_list, run_cases}
+use Rattle.words.specs.Tree.{Expression, expression}
+use Rattle.words.specs.Tree.{Switch}
+use Rattle.words.specs.Tree.{Statements, none, Cases, no_case, case}
+use Rattle.meaning.specs.Fold.Folded.{unchanged}
 use Rattle.meaning.specs.Fold.IsTerminated.{is_terminated_list}
-use Rattle.meaning.specs.Fold.Select.{Entry, matched, default, missing, Standing, before, through, past, join, optional_parts, next, lives, keeps_test, bodies, lost_names, kept_statements, as_test, lead, later, at_default, is_several, is_none, kept_tests, entry_at, entry_of, selected, select_entry, select_value, drop_unreachable_switch_cases}
+use Rattle.meaning.specs.Fold.Select.{Entry, matched, default, missing, Standing, before, through, past, join, optional_parts, next, lives, bodies, lost_names, kept_statements, as_test, lead, later, at_default, is_several, is_none, kept_tests, entry_at, entry_of, selected, select_entry, select_value, drop_unreachable_switch_cases}
 use Rattle.meaning.proofs.Sequencing.{then_normal, normal_then, eval_then, abrupt_then, run_join, run_stub_list, lets_join, lets_stub_list}
 use Rattle.meaning.proofs.Evaluations.{all_then, eval_all, eval_value, all_idle, then_append, value_append, append_nil}
 use Rattle.meaning.proofs.Terminated.{abrupt_list}

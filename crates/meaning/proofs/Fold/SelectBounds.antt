@@ -1,20 +1,17 @@
 -- Selection pays for its change.
-use Rattle.std.proofs.Common.{◌≡◌, ℕ, zero, suc, ◌+◌, ◌<◌, ◌≤◌, Bool, true, false, cond, not, ◌&&◌, ◌||◌, List, [], ◌∷◌, ◌++◌, map, length, Some, None, Option, sym, refl, ap, ◌∙◌, subst, arith}
-use mathlib.Core.Path.{fun_ext}
-use Rattle.host.specs.Model.{Model, Lawful, Value, World, Outcome, gives, throws, no_return, Declaration, by_var, by_let}
-use Rattle.host.specs.Sequence.{parts_of, last_number, ask, truth_of, value_of, effects_of, literal_of}
-use Rattle.words.specs.Tree.{Expression, expression, Declarator, Name, NameInit, Start, no_start, start_expression, start_var, start_let}
-use Rattle.words.specs.Tree.{Statement, Empty, Break, Continue, Block, Expr, Throw, Var, If, IfElse, For, While, Do, Switch, Label, BreakTo, ContinueTo, Return, TryCatch, TryFinally, TryBoth}
+use Rattle.std.proofs.Common.{◌≡◌, ℕ, zero, ◌+◌, ◌≤◌, Bool, true, false, cond, ◌&&◌, List, [], ◌∷◌, ◌++◌, length, Some, None, Option, sym, refl, subst, arith}
+use Rattle.host.specs.Model.{Model, Value}
+use Rattle.host.specs.Sequence.{parts_of, value_of, effects_of}
+use Rattle.words.specs.Tree.{Expression, expression}
 use Rattle.words.specs.Tree.{Statements, none, some, Let, Cases, no_case, case}
 use Rattle.scan.specs.Weight.{weight_expression, weight_optional}
-use Rattle.words.specs.Encode.{count_cases}
-use Rattle.meaning.proofs.Measure.{Scale, own, measure, measure_list, measure_cases, at_least_one, stub_cost, list_cost, names_both, length_append}
-use Rattle.meaning.specs.Fold.Folded.{Folded, folded, unchanged, changed, if_so, plus_changes}
+use Rattle.meaning.proofs.Measure.{Scale, measure_list, measure_cases, stub_cost, list_cost, names_both, length_append}
+use Rattle.meaning.specs.Fold.Folded.{Folded, unchanged, changed}
 use Rattle.meaning.proofs.Evaluations.{append_nil}
 use Rattle.meaning.specs.Run.{let_names_cases}
 use Rattle.meaning.specs.Fold.KeepVar.{keep_list, stub_list}
 use Rattle.meaning.specs.Fold.IsTerminated.{is_terminated_list}
-use Rattle.meaning.specs.Fold.Select.{Entry, matched, default, missing, Standing, before, through, past, join, optional_parts, next, lives, keeps_test, bodies, lost_names, kept_statements, as_test, lead, later, at_default, is_several, is_none, kept_tests, entry_at, entry_of, selected, select_entry, select_value, drop_unreachable_switch_cases}
+use Rattle.meaning.specs.Fold.Select.{Entry, matched, default, missing, Standing, before, past, join, optional_parts, next, lives, keeps_test, bodies, lost_names, kept_statements, as_test, lead, later, at_default, is_several, is_none, kept_tests, entry_at, entry_of, select_entry, select_value, drop_unreachable_switch_cases}
 use Rattle.meaning.proofs.Bound.{impossible, stub_list_measure}
 
 -- an expression of these parts, and one more

@@ -1,21 +1,17 @@
 -- The folds of a Switch: what they make keeps the rules.
-use Rattle.std.proofs.Common.{◌≡◌, ℕ, zero, suc, ◌+◌, ◌<◌, ◌≤◌, Bool, true, false, cond, not, ◌&&◌, ◌||◌, List, [], ◌∷◌, ◌++◌, map, Some, None, Option, sym, refl, ap, ◌∙◌, subst, arith}
-use mathlib.Core.Path.{fun_ext}
-use Rattle.host.specs.Model.{Model, Lawful, Value, World, Outcome, gives, throws, no_return, Declaration, by_var, by_let}
-use Rattle.host.specs.Sequence.{parts_of, last_number, ask, truth_of, value_of, effects_of, literal_of}
-use Rattle.words.specs.Tree.{Expression, expression, Declarator, Name, NameInit, Start, no_start, start_expression, start_var, start_let}
-use Rattle.words.specs.Tree.{Statement, Empty, Break, Continue, Block, Expr, Throw, Var, If, IfElse, For, While, Do, Switch, Label, BreakTo, ContinueTo, Return, TryCatch, TryFinally, TryBoth}
+use Rattle.std.proofs.Common.{ℕ, ◌≤◌, Bool, true, false, cond, ◌&&◌, List, [], ◌∷◌, Some, None, Option}
+use Rattle.host.specs.Model.{Model}
+use Rattle.host.specs.Sequence.{parts_of, value_of, effects_of}
+use Rattle.words.specs.Tree.{Expression, expression}
+use Rattle.words.specs.Tree.{Switch}
 use Rattle.words.specs.Tree.{Statements, none, some, Let, Cases, no_case, case}
 use Rattle.checker.specs.Check.{Around, depth_limit}
-use Rattle.slices.specs.Among.{among}
-use Rattle.checker.specs.Rules.{Keeps, KeepsList, KeepsCases, Known, KnownOptional, KnownDeclarators, KnownStart, AllBelow, inside, loop_body, switch_case, labelled, listed, OneDefault, NoDefault}
-use Rattle.meaning.proofs.Surroundings.{Wider, widen, widen_list, wider_out, keeps_deep, run_out}
-use Rattle.meaning.specs.Fold.Folded.{Folded, folded, unchanged, changed, if_so, plus_changes}
-use Rattle.meaning.specs.Fold.KeepVar.{keep_list, stub_list}
+use Rattle.checker.specs.Rules.{Keeps, KeepsList, KeepsCases, Known, KnownOptional, AllBelow, switch_case, listed, OneDefault, NoDefault}
+use Rattle.meaning.specs.Fold.Folded.{unchanged}
 use Rattle.meaning.specs.Fold.IsTerminated.{is_terminated_list}
 use Rattle.meaning.specs.Run.{let_names_cases}
-use Rattle.meaning.specs.Fold.Select.{Entry, matched, default, missing, Standing, before, through, past, join, optional_parts, next, lives, keeps_test, bodies, lost_names, kept_statements, as_test, lead, is_several, is_none, kept_tests, entry_of, selected, select_entry, select_value, drop_unreachable_switch_cases}
-use Rattle.meaning.specs.Fold.Switch.{is_break, without_last_break, cases_without_last_break, has_default, cases_from_default, cut_last, cut_before_last, is_removable, without_end, without_before_last, unless_default_left, without_empty_by, without_empty, finish_switch, try_fold_switch, fold_switch}
+use Rattle.meaning.specs.Fold.Select.{Entry, matched, default, missing, Standing, before, past, optional_parts, next, lives, keeps_test, bodies, lost_names, kept_statements, as_test, lead, is_several, is_none, kept_tests, entry_of, selected, select_entry, select_value, drop_unreachable_switch_cases}
+use Rattle.meaning.specs.Fold.Switch.{is_break, without_last_break, cases_without_last_break, has_default, cases_from_default, cut_last, cut_before_last, is_removable, without_end, without_before_last, unless_default_left, without_empty_by, without_empty, finish_switch, fold_switch}
 use Rattle.meaning.proofs.Keeps.{keeps_stub_list, keeps_join, below_append}
 
 module _ (count : ℕ) (a : Around) where

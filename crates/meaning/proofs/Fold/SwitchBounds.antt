@@ -1,16 +1,12 @@
 -- The folds of a Switch pay for their changes.
-use Rattle.std.proofs.Common.{◌≡◌, ℕ, zero, suc, ◌+◌, ◌<◌, ◌≤◌, Bool, true, false, cond, not, ◌&&◌, ◌||◌, ltb, List, [], ◌∷◌, ◌++◌, map, length, Some, None, Option, sym, refl, ap, ◌∙◌, subst, arith, ltb→lt, nltb→le}
-use mathlib.Core.Path.{fun_ext}
-use Rattle.host.specs.Model.{Model, Lawful, Value, World, Outcome, gives, throws, no_return, Declaration, by_var, by_let}
-use Rattle.host.specs.Sequence.{parts_of, last_number, ask, truth_of, value_of, effects_of, literal_of}
-use Rattle.words.specs.Tree.{Expression, expression, Declarator, Name, NameInit, Start, no_start, start_expression, start_var, start_let}
+use Rattle.std.proofs.Common.{◌≡◌, ℕ, ◌+◌, ◌<◌, ◌≤◌, Bool, true, false, cond, ltb, Option, refl, ap, ◌∙◌, arith, ltb→lt, nltb→le}
+use Rattle.host.specs.Model.{Model}
+use Rattle.words.specs.Tree.{Expression}
 use Rattle.words.specs.Tree.{Statement, Empty, Break, Continue, Block, Expr, Throw, Var, If, IfElse, For, While, Do, Switch, Label, BreakTo, ContinueTo, Return, TryCatch, TryFinally, TryBoth}
 use Rattle.words.specs.Tree.{Statements, none, some, Let, Cases, no_case, case}
-use Rattle.scan.specs.Weight.{weight_expression, weight_optional}
 use Rattle.words.specs.Encode.{count_cases}
-use Rattle.meaning.proofs.Measure.{Scale, own, measure, measure_list, measure_cases, at_least_one, stub_cost, list_cost, names_both, length_append}
-use Rattle.meaning.specs.Fold.Folded.{Folded, folded, unchanged, changed, if_so, plus_changes}
-use Rattle.meaning.proofs.Evaluations.{append_nil}
+use Rattle.meaning.proofs.Measure.{Scale, own, measure, measure_list, measure_cases}
+use Rattle.meaning.specs.Fold.Folded.{Folded, if_so, plus_changes}
 use Rattle.meaning.specs.Fold.Select.{drop_unreachable_switch_cases}
 use Rattle.meaning.specs.Fold.Switch.{is_break, ends_in_break, without_last_break, cases_end_in_break, cases_without_last_break, has_default, cases_from_default, cut_last, cut_before_last, is_removable, without_end, without_before_last, unless_default_left, without_empty_by, without_empty, finish_switch, try_fold_switch, fold_switch}
 use Rattle.meaning.proofs.Bound.{Bound, bound_changed, impossible, zero_left, zero_right}

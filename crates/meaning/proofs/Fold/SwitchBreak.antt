@@ -1,20 +1,15 @@
 -- Runs that are alike inside a Switch, which absorbs break; and dropping the last Break of a Switch.
-use Rattle.std.proofs.Common.{◌≡◌, ℕ, zero, suc, ◌+◌, ◌<◌, ◌≤◌, Bool, true, false, cond, not, ◌&&◌, ◌||◌, List, [], ◌∷◌, ◌++◌, map, Some, None, Option, sym, refl, ap, ◌∙◌, subst, arith}
+use Rattle.std.proofs.Common.{◌≡◌, ℕ, Bool, true, false, cond, List, [], ◌∷◌, ◌++◌, Some, None, Option, sym, refl, ap, ◌∙◌, arith}
 use mathlib.Core.Path.{fun_ext}
-use Rattle.host.specs.Model.{Model, Lawful, Value, World, Outcome, gives, throws, no_return, Declaration, by_var, by_let}
-use Rattle.host.specs.Sequence.{parts_of, last_number, ask, truth_of, value_of, effects_of, literal_of}
-use Rattle.meaning.specs.Completion.{Ending, normal, break, continue, gone, spent, break_to, continue_to, return, throw, Completion, Evaluation, is_normal, is_stopped, thrown, loop_continues, without_break, without_break_to, end, ◌thereafter◌, if_normal, ◌then◌, breakable, with_label, handle, catch_by, unless_stopped, finally, one_round, if_continues, turns, loop}
-use Rattle.meaning.specs.Run.{bound_names, let_names, let_names_cases, act, eval_parts, eval, eval_optional, branch, branch_optional, bind_name, declare_one, declare, leaving, scope, scoped, renewed, while_loop, do_loop, for_body, for_loop, Clauses, fall_through, if_default, from_default, if_selected, select_case, switch, return_value, catch_clause, run, run_list, run_cases, run_body}
-use Rattle.words.specs.Tree.{Expression, expression, Declarator, Name, NameInit, Start, no_start, start_expression, start_var, start_let}
+use Rattle.host.specs.Model.{Model, Value, World, Outcome, gives, throws, no_return}
+use Rattle.meaning.specs.Completion.{Ending, normal, break, continue, gone, spent, break_to, continue_to, return, throw, Completion, Evaluation, is_normal, without_break, end, ◌thereafter◌, if_normal, ◌then◌, breakable, unless_stopped}
+use Rattle.meaning.specs.Run.{bound_names, let_names, let_names_cases, act, eval_parts, eval, leaving, scope, scoped, Clauses, fall_through, if_default, from_default, if_selected, select_case, switch, run, run_list, run_cases}
+use Rattle.words.specs.Tree.{Expression, expression}
 use Rattle.words.specs.Tree.{Statement, Empty, Break, Continue, Block, Expr, Throw, Var, If, IfElse, For, While, Do, Switch, Label, BreakTo, ContinueTo, Return, TryCatch, TryFinally, TryBoth}
 use Rattle.words.specs.Tree.{Statements, none, some, Let, Cases, no_case, case}
-use Rattle.meaning.specs.Fold.Folded.{Folded, folded, unchanged, changed, if_so, plus_changes}
-use Rattle.meaning.specs.Fold.Select.{drop_unreachable_switch_cases}
-use Rattle.meaning.specs.Fold.Switch.{is_blank, all_blank, is_break, ends_in_break, without_last_break, cases_end_in_break, cases_without_last_break, has_default, cases_from_default, cut_last, cut_before_last, is_literal, is_removable, without_end, without_before_last, unless_default_left, without_empty_by, without_empty, finish_switch, try_fold_switch, fold_switch}
-use Rattle.meaning.proofs.Evaluations.{eval_idle}
-use Rattle.meaning.proofs.Sequencing.{then_normal, normal_then}
+use Rattle.meaning.specs.Fold.Switch.{is_blank, all_blank, is_break, without_last_break, cases_without_last_break, cases_from_default, is_literal, is_removable, finish_switch}
+use Rattle.meaning.proofs.Sequencing.{then_normal}
 use Rattle.meaning.proofs.Terminated.{and_left, and_right}
-use Rattle.meaning.proofs.Lists.{cond_same, nil_left, nil_right, nil_both}
 
 -- what a Switch makes of what comes after a list
 pub pick : Evaluation → Ending → Evaluation

@@ -1,19 +1,18 @@
 -- The folds of a Switch: the names of what they make.
-use Rattle.std.proofs.Common.{◌≡◌, ℕ, zero, suc, ◌+◌, ◌<◌, ◌≤◌, Bool, true, false, cond, not, ◌&&◌, ◌||◌, List, [], ◌∷◌, ◌++◌, map, Some, None, Option, sym, refl, ap, ◌∙◌, subst, arith}
-use mathlib.Core.Path.{fun_ext}
-use Rattle.host.specs.Model.{Model, Lawful, Value, World, Outcome, gives, throws, no_return, Declaration, by_var, by_let}
-use Rattle.host.specs.Sequence.{parts_of, last_number, ask, truth_of, value_of, effects_of, literal_of}
-use Rattle.words.specs.Tree.{Expression, expression, Declarator, Name, NameInit, Start, no_start, start_expression, start_var, start_let}
+use Rattle.std.proofs.Common.{◌≡◌, ℕ, Bool, true, false, cond, ◌&&◌, List, [], ◌∷◌, ◌++◌, Some, None, Option, sym, refl, ap, ◌∙◌}
+use Rattle.host.specs.Model.{Model}
+use Rattle.host.specs.Sequence.{parts_of, value_of}
+use Rattle.words.specs.Tree.{Expression}
 use Rattle.words.specs.Tree.{Statement, Empty, Break, Continue, Block, Expr, Throw, Var, If, IfElse, For, While, Do, Switch, Label, BreakTo, ContinueTo, Return, TryCatch, TryFinally, TryBoth}
 use Rattle.words.specs.Tree.{Statements, none, some, Let, Cases, no_case, case}
 use Rattle.slices.specs.Among.{among}
 use Rattle.meaning.specs.Run.{let_names_cases}
 use Rattle.meaning.specs.FoldLaws.{NamesLeft}
-use Rattle.meaning.specs.Fold.Folded.{Folded, folded, unchanged, changed, if_so, plus_changes}
+use Rattle.meaning.specs.Fold.Folded.{unchanged}
 use Rattle.meaning.specs.Fold.KeepVar.{keep_var, keep_list, keep_cases, stub_list}
 use Rattle.meaning.specs.Fold.IsTerminated.{is_terminated_list}
-use Rattle.meaning.specs.Fold.Select.{Entry, matched, default, missing, Standing, before, through, past, join, next, lives, bodies, lost_names, kept_statements, as_test, lead, is_several, is_none, kept_tests, entry_of, selected, select_entry, select_value, drop_unreachable_switch_cases}
-use Rattle.meaning.specs.Fold.Switch.{is_blank, all_blank, is_break, without_last_break, cases_without_last_break, has_default, cases_from_default, cut_last, cut_before_last, is_removable, without_end, without_before_last, unless_default_left, without_empty_by, without_empty, finish_switch, try_fold_switch, fold_switch}
+use Rattle.meaning.specs.Fold.Select.{Entry, matched, default, missing, Standing, before, past, join, next, lives, bodies, lost_names, kept_statements, lead, is_several, is_none, kept_tests, entry_of, selected, select_entry, select_value, drop_unreachable_switch_cases}
+use Rattle.meaning.specs.Fold.Switch.{is_blank, all_blank, is_break, without_last_break, cases_without_last_break, has_default, cases_from_default, cut_last, cut_before_last, is_removable, without_end, without_before_last, without_empty_by, without_empty, finish_switch, fold_switch}
 use Rattle.meaning.proofs.Evaluations.{append_nil}
 use Rattle.meaning.proofs.Surroundings.{among_append}
 use Rattle.meaning.proofs.Terminated.{and_left}

@@ -5,7 +5,7 @@
 --   before: `{ {} }`   after: `{ ; }`
 use Rattle.std.specs.Prelude.{Bool, true, false, cond}
 use Rattle.words.specs.Tree.{Statement, Empty, Break, Continue, Block, Expr, Throw, Var, If, IfElse, For, While, Do, Switch, Label, BreakTo, ContinueTo, Return, TryCatch, TryFinally, TryBoth}
-use Rattle.words.specs.Tree.{Statements, none, some, Let, Cases, no_case, case}
+use Rattle.words.specs.Tree.{Statements, none, some, Let}
 use Rattle.meaning.specs.Fold.Folded.{Folded, unchanged, changed}
 
 -- what a statement is directly part of

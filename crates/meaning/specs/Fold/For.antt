@@ -2,13 +2,13 @@
 -- test that is false the For is replaced by its declaration and a stub of its body. A test with effects stays.
 --   before: `for (var i = f; 0; g) var y`   after: `var i = f, y`
 --   before: `for (let i = f; 0;) var y`   after: `{ let i = f; var y }`
-use Rattle.std.specs.Prelude.{ℕ, ◌+◌, Bool, true, false, cond, List, [], ◌∷◌, ◌++◌, map, Some, None, Option}
+use Rattle.std.specs.Prelude.{◌+◌, Bool, true, false, cond, ◌++◌, map, Some, None, Option}
 use Rattle.words.specs.Tree.{Expression, Name, Start, no_start, start_expression, start_var, start_let}
-use Rattle.words.specs.Tree.{Statement, Empty, Block, Var, For}
-use Rattle.words.specs.Tree.{Statements, none, some, Let}
+use Rattle.words.specs.Tree.{Statement, Block, Var, For}
+use Rattle.words.specs.Tree.{Let}
 use Rattle.host.specs.Model.{Model}
 use Rattle.host.specs.Sequence.{parts_of, truth_of, effects_of}
-use Rattle.meaning.specs.Fold.Folded.{Folded, folded, unchanged, changed, plus_changes}
+use Rattle.meaning.specs.Fold.Folded.{Folded, unchanged, changed, plus_changes}
 use Rattle.meaning.specs.Fold.KeepVar.{keep_var, stub_or_empty, stub_list}
 
 module _ (m : Model) where

@@ -3,10 +3,10 @@
 -- branch that are not granted stay as a stub; else the branch goes, and where the test has no effects the whole If.
 --   before: `if (0) var x = f; else g`   after: `if (0) var x; else g`, or `g` where x is granted
 --   before: `if ((f, 1)) g; else h`   after: `if ((f, 1)) g`
-use Rattle.std.specs.Prelude.{ℕ, ◌+◌, Bool, true, false, cond, not, ◌||◌, List, [], ◌∷◌, Some, None, Option, ◌==◌}
+use Rattle.std.specs.Prelude.{ℕ, ◌+◌, Bool, true, false, cond, not, List, [], ◌∷◌, Some, None, Option, ◌==◌}
 use Rattle.words.specs.Tree.{Expression, expression}
 use Rattle.words.specs.Tree.{Statement, Empty, Break, Continue, Block, Expr, Throw, Var, If, IfElse, For, While, Do, Switch, Label, BreakTo, ContinueTo, Return, TryCatch, TryFinally, TryBoth}
-use Rattle.words.specs.Tree.{Statements, none, some, Let, Cases, no_case, case}
+use Rattle.words.specs.Tree.{none, some, Let}
 use Rattle.host.specs.Model.{Model}
 use Rattle.host.specs.Sequence.{parts_of, truth_of, effects_of}
 use Rattle.meaning.specs.Fold.Folded.{Folded, folded, unchanged, changed, if_so, plus_changes}

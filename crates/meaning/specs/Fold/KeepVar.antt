@@ -2,7 +2,7 @@
 -- the stub that stands for code that is dropped, a Var of those names.
 --   before: `if (0) { var x = f, y; for (var i;;); }`   stub: `var x, y, i`
 use Rattle.std.specs.Prelude.{ℕ, List, [], ◌∷◌, ◌++◌, map}
-use Rattle.words.specs.Tree.{Declarator, Name, Start, no_start, start_expression, start_var, start_let}
+use Rattle.words.specs.Tree.{Name, Start, no_start, start_expression, start_var, start_let}
 use Rattle.words.specs.Tree.{Statement, Empty, Break, Continue, Block, Expr, Throw, Var, If, IfElse, For, While, Do, Switch, Label, BreakTo, ContinueTo, Return, TryCatch, TryFinally, TryBoth}
 use Rattle.words.specs.Tree.{Statements, none, some, Let, Cases, no_case, case}
 use Rattle.meaning.specs.Run.{bound_names}

@@ -2,7 +2,7 @@
 -- that is to be dropped is replaced by Empty, with all that it holds: that does not keep the meaning.
 --   before: `L: { break L; var z = f }`   after: `var z`
 --   before: `L: ;`   after: `;`
-use Rattle.std.specs.Prelude.{ℕ, Bool, true, false, cond, ◌||◌, List, ◌==◌}
+use Rattle.std.specs.Prelude.{ℕ, Bool, false, cond, ◌||◌, List, ◌==◌}
 use Rattle.words.specs.Tree.{Statement, Empty, Break, Continue, Block, Expr, Throw, Var, If, IfElse, For, While, Do, Switch, Label, BreakTo, ContinueTo, Return, TryCatch, TryFinally, TryBoth}
 use Rattle.words.specs.Tree.{Statements, none, some, Let}
 use Rattle.slices.specs.Among.{among}

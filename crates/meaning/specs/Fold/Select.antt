@@ -3,7 +3,7 @@
 -- in order, and the Vars of cases that do not run stay as a stub. A Let directly in a case rules it out.
 --   before: `switch (1) { case 2: f; case 1: g; break; case 3: var z }`   after: `switch (1) { case 1: g; break; var z }`
 --   before: `switch (1) { case (f, 2): g; default: h }`   after: `switch (1) { default: (f, 2); h }`
-use Rattle.std.specs.Prelude.{ℕ, zero, suc, Bool, true, false, cond, not, ◌&&◌, ◌||◌, List, [], ◌∷◌, ◌++◌, Some, None, Option}
+use Rattle.std.specs.Prelude.{ℕ, zero, suc, Bool, true, false, cond, ◌&&◌, ◌||◌, List, [], ◌∷◌, ◌++◌, Some, None, Option}
 use Rattle.words.specs.Tree.{Expression, expression, Expr}
 use Rattle.words.specs.Tree.{Statements, none, some, Let, Cases, no_case, case}
 use Rattle.host.specs.Model.{Model, Value}

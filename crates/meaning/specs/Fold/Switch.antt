@@ -2,14 +2,14 @@
 -- a last Default. A Switch without cases becomes its discriminant, and a Break at the very end goes.
 --   before: `switch (f) { case 0: g; break; case 1: default: h }`   after: `switch (f) { case 0: g; break; default: h }`
 --   before: `switch (f) { case 1: break }`   after: `f`
-use Rattle.std.specs.Prelude.{ℕ, ◌+◌, Bool, true, false, cond, ◌&&◌, Some, None, Option, nat_lt}
+use Rattle.std.specs.Prelude.{Bool, true, false, cond, ◌&&◌, Some, None, Option, nat_lt}
 use Rattle.words.specs.Tree.{Expression}
 use Rattle.words.specs.Tree.{Statement, Empty, Break, Continue, Block, Expr, Throw, Var, If, IfElse, For, While, Do, Switch, Label, BreakTo, ContinueTo, Return, TryCatch, TryFinally, TryBoth}
 use Rattle.words.specs.Tree.{Statements, none, some, Let, Cases, no_case, case}
 use Rattle.words.specs.Encode.{count_cases}
 use Rattle.host.specs.Model.{Model}
 use Rattle.host.specs.Sequence.{parts_of, literal_of}
-use Rattle.meaning.specs.Fold.Folded.{Folded, folded, unchanged, changed, if_so, plus_changes}
+use Rattle.meaning.specs.Fold.Folded.{Folded, folded, changed, if_so, plus_changes}
 use Rattle.meaning.specs.Fold.Select.{drop_unreachable_switch_cases}
 
 -- Empty, or a Break where that is allowed

@@ -2,10 +2,10 @@
 -- where there is a catch; and a Try of which only a finalizer or nothing is left is replaced by that.
 --   before: `try {} catch { f; var z } finally {}`   after: `try {} catch { var z }`
 --   before: `try {} finally { f }`   after: `{ f }`
-use Rattle.std.specs.Prelude.{ℕ, ◌+◌, Bool, true, false, cond, Some, None, Option}
+use Rattle.std.specs.Prelude.{ℕ, Bool, true, false, cond, Option}
 use Rattle.words.specs.Tree.{Statement, Empty, Block, TryCatch, TryFinally, TryBoth}
 use Rattle.words.specs.Tree.{Statements, none, some, Let}
-use Rattle.meaning.specs.Fold.Folded.{Folded, folded, unchanged, changed, plus_changes}
+use Rattle.meaning.specs.Fold.Folded.{Folded, unchanged, changed, plus_changes}
 use Rattle.meaning.specs.Fold.KeepVar.{keep_list, stub_list}
 use Rattle.meaning.specs.Fold.IsTerminated.{is_bare_var}
 

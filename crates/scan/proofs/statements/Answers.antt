@@ -1,4 +1,4 @@
-use Rattle.std.proofs.Common.{◌≡◌, ◌+◌, ◌≤◌, map, length, drop, sym, ap, ◌∙◌, arith}
+use Rattle.std.proofs.Common.{◌≡◌, ◌+◌, map, length, drop, ap, ◌∙◌, arith}
 use Rattle.words.specs.Words.{read_word}
 use Rattle.scan.specs.Places.{places_from, places_words}
 use Rattle.encoding.proofs.Loops.{words_all}

@@ -1,5 +1,4 @@
-use Rattle.std.proofs.Common.{◌≡◌, cond, get_or, sym, ap, ◌∙◌, arith}
-use Rattle.words.specs.Words.{read_word}
+use Rattle.std.proofs.Common.{cond, sym, ap, ◌∙◌, arith}
 use Rattle.scan.specs.Weight.{is_constant_lem, test_words}
 use Rattle.encoding.proofs.Loops.{words_more, words_all}
 use Rattle.scan.proofs.test_weight.Goals as goal

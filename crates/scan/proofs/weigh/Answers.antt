@@ -1,4 +1,4 @@
-use Rattle.std.proofs.Common.{◌≡◌, ◌+◌, ◌≤◌, map, drop, sym, ap, ◌∙◌, arith}
+use Rattle.std.proofs.Common.{◌≡◌, map, ap, ◌∙◌, arith}
 use Rattle.words.specs.Words.{read_word}
 use Rattle.scan.specs.Weight.{weight_words}
 use Rattle.encoding.proofs.Loops.{words_more, words_all}

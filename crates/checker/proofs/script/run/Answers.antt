@@ -1,9 +1,9 @@
-use Rattle.std.proofs.Common.{◌≡◌, ℕ, ◌+◌, List, [], ◌∷◌, map, reverse, length, drop, sym, refl, ap, ◌∙◌, subst, arith}
+use Rattle.std.proofs.Common.{map, reverse, length, drop, sym, ap, ◌∙◌, subst, arith}
 use Rattle.words.specs.Words.{read_word}
 use Rattle.bounded.specs.Stack.{held}
 use Rattle.faults.specs.declared.tree.TreeFault.TheVariants.{Reader}
 use Rattle.checker.specs.Check.{check}
-use Rattle.checker.specs.Held.{dues, Sound, Left, frames_of}
+use Rattle.checker.specs.Held.{dues, Sound, frames_of}
 use Rattle.checker.proofs.Exits.{popped, left_on, err_is, left_over, all_read}
 use Rattle.checker.proofs.script.run.Goals as goal
 

@@ -3,7 +3,7 @@ use Rattle.bounded.specs.Stack.{held}
 use Rattle.grammar.specs.Format.{parts}
 use Rattle.faults.specs.declared.tree.TreeFault.TheVariants.{Reader}
 use Rattle.checker.specs.Check.{judge}
-use Rattle.checker.specs.Held.{due_in, within_spot, grown, rest_frame, onto, frames_of, opened, looped}
+use Rattle.checker.specs.Held.{due_in, within_spot, grown, rest_frame, onto, frames_of}
 use Rattle.checker.proofs.Exits.{by_err, no_word, first_is, room_left, refused_step, left_step, within_depth}
 use Rattle.checker.proofs.script.step.Goals as goal
 

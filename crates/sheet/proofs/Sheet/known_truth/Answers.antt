@@ -1,4 +1,4 @@
-use Rattle.std.proofs.Common.{Bool, Some, None, sym, ap, ◌∙◌}
+use Rattle.std.proofs.Common.{Bool, Some, None, ap, ◌∙◌}
 use Rattle.sheet.specs.SheetAnswers.{negate_when}
 use Rattle.sheet.proofs.SheetLemmas.{known_through, differs}
 use Rattle.sheet.proofs.Sheet.known_truth.Goals as goal

@@ -1,7 +1,7 @@
-use Rattle.std.proofs.Common.{Some, Option, ap, ◌∙◌}
+use Rattle.std.proofs.Common.{Some, ap, ◌∙◌}
 use Rattle.std.specs.Option.{option_map}
 use Rattle.values.specs.declared.sheet_value.SheetValue.{SheetValue}
-use Rattle.values.specs.SheetValues.{language, listed, sheet_meaning}
+use Rattle.values.specs.SheetValues.{listed, sheet_meaning}
 use Rattle.sheet.specs.SheetRows.{sheet_row_at}
 use Rattle.sheet.specs.SheetAnswers.{end_value_lem}
 use Rattle.sheet.proofs.SheetLemmas.{value_of_false, meaning_known, end_known}

@@ -1,4 +1,4 @@
-use Rattle.std.proofs.Common.{◌≡◌, ℕ, ◌≤◌, Bool, cond, List, length, Some, None, Option, sym, ap, ◌∙◌, arith}
+use Rattle.std.proofs.Common.{ℕ, ◌≤◌, Bool, cond, List, length, Some, None, sym, ap, ◌∙◌, arith}
 use Rattle.values.specs.Bytes.{half_length}
 use Rattle.values.proofs.TextLemmas.{allowed_length, halves_bytes, halves_within}
 use Rattle.values.proofs.text.Text.new.Goals as goal

@@ -1,5 +1,5 @@
-use Rattle.std.proofs.Common.{◌≡◌, ℕ, suc, ◌-◌, ◌/◌, sym, ap, ◌∙◌, arith}
-use Rattle.values.specs.Bytes.{byte_at, byte_count}
+use Rattle.std.proofs.Common.{◌≡◌, suc, ◌-◌, ap, ◌∙◌, arith}
+use Rattle.values.specs.Bytes.{byte_at}
 use Rattle.values.proofs.text.bytes.byte_at.Goals as goal
 
 pub loop-left-preserved : goal.loop-left-preserved

@@ -1,6 +1,6 @@
-use Rattle.std.proofs.Common.{◌≡◌, ℕ, suc, ◌+◌, ◌-◌, ◌*◌, ◌^◌, ◌<◌, ◌≤◌, List, ◌∷◌, length, get_or, drop, sym, ap, ◌∙◌, arith}
+use Rattle.std.proofs.Common.{◌≡◌, ℕ, suc, ◌+◌, ◌-◌, ◌*◌, ◌<◌, ◌≤◌, List, ◌∷◌, length, get_or, drop, sym, ap, ◌∙◌, arith}
 use Rattle.std.proofs.lemmas.List.{drop_more, drop_all}
-use Rattle.values.specs.Bytes.{bytes_of, byte_count, half_count}
+use Rattle.values.specs.Bytes.{bytes_of, byte_count}
 use Rattle.values.proofs.TextLemmas.{bytes_step, number_fits, number_within}
 use Rattle.values.proofs.text.bytes.number_of.Goals as goal
 

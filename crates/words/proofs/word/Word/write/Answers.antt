@@ -1,6 +1,6 @@
 use Rattle.std.proofs.Common.{◌≡◌, ◌+◌, ◌*◌, ◌<◌, Some, sym, ap, ◌∙◌, arith, lt-ltb}
 use Rattle.std.proofs.lemmas.Bool.{cond-true}
-use Rattle.words.specs.Words.{number_limit, code, read_word, write_word}
+use Rattle.words.specs.Words.{number_limit, code, read_word}
 use Rattle.words.proofs.Coding.{reads_back}
 use Rattle.words.proofs.word.Word.write.Goals as goal
 
