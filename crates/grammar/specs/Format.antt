@@ -1,6 +1,6 @@
 -- The format as one table, that of docs/FORMAT.md: which kinds may stand where, which numbers each kind may have,
 -- which parts follow a word and what is around them. A word and its parts are written one after another.
-use Rattle.std.specs.Prelude.{ℕ, zero, suc, ◌+◌, Bool, true, false, cond, List, [], ◌∷◌, eqb, leb}
+use Rattle.std.specs.Prelude.{ℕ, zero, suc, ◌+◌, Bool, true, false, cond, List, [], ◌∷◌, ◌==◌, nat_le}
 use Rattle.words.specs.declared.word.Kind.{Kind}
 use Rattle.words.specs.declared.word.Kind.TheVariants as kind
 use Rattle.words.specs.declared.word.Word.{Word}
@@ -28,7 +28,7 @@ admits CaseAfterDefault k = from_to kind.Case kind.Case k
 
 -- a Switch has at most one Default
 abbrev pub after : What → Kind → What
-after what k = cond (eqb (code k) (code kind.Default)) CaseAfterDefault what
+after what k = cond (code k == code kind.Default) CaseAfterDefault what
 
 -- statements and cases have a depth
 abbrev pub has_depth_lem : What → Bool
@@ -47,31 +47,31 @@ has_depth_lem CaseAfterDefault = true
 -- the number rule: no number but 0 for a kind that has nothing to say by it
 abbrev pub allows : Kind → ℕ → Bool
 allows kind.Unlisted n = false
-allows kind.Empty n = eqb n 0
+allows kind.Empty n = n == 0
 allows kind.Block n = true
-allows kind.Expr n = eqb n 0
-allows kind.Var n = leb 1 n
-allows kind.Let n = leb 1 n
-allows kind.If n = leb n if_alternate
-allows kind.For n = cond (leb n (for_expression + for_declaration + for_test + for_update)) (leb (has for_expression n + has for_declaration n) 1) false
-allows kind.While n = eqb n 0
-allows kind.Do n = eqb n 0
+allows kind.Expr n = n == 0
+allows kind.Var n = nat_le 1 n
+allows kind.Let n = nat_le 1 n
+allows kind.If n = nat_le n if_alternate
+allows kind.For n = cond (nat_le n (for_expression + for_declaration + for_test + for_update)) (nat_le (has for_expression n + has for_declaration n) 1) false
+allows kind.While n = n == 0
+allows kind.Do n = n == 0
 allows kind.Switch n = true
 allows kind.Label n = true
-allows kind.Break n = eqb n 0
+allows kind.Break n = n == 0
 allows kind.BreakTo n = true
-allows kind.Continue n = eqb n 0
+allows kind.Continue n = n == 0
 allows kind.ContinueTo n = true
-allows kind.Return n = leb n return_value
-allows kind.Throw n = eqb n 0
-allows kind.Try n = cond (leb try_catch n) (leb n (try_catch + try_finalizer)) false
+allows kind.Return n = nat_le n return_value
+allows kind.Throw n = n == 0
+allows kind.Try n = cond (nat_le try_catch n) (nat_le n (try_catch + try_finalizer)) false
 allows kind.Body n = true
 allows kind.Catch n = true
 allows kind.CatchName n = true
 allows kind.Case n = true
 allows kind.Default n = true
 allows kind.Expression n = true
-allows kind.Sequence n = leb 2 n
+allows kind.Sequence n = nat_le 2 n
 allows kind.Name n = true
 allows kind.NameInit n = true
 

@@ -163,13 +163,14 @@ impl Job {
     }
 
     fn set_host(&mut self, name: &str) -> Result<(), LineFault> {
+        let found = look_up(&HOSTS, name);
+        if found.is_none() {
+            return Err(LineFault::Syntax(Problem::UnknownLine));
+        }
         if self.host.is_some() {
             return Err(LineFault::Syntax(Problem::SecondHost));
         }
-        self.host = look_up(&HOSTS, name);
-        if self.host.is_none() {
-            return Err(LineFault::Syntax(Problem::UnknownLine));
-        }
+        self.host = found;
         Ok(())
     }
 

@@ -29,7 +29,7 @@ impl Problem {
                 "a line begins with host, entry, row, name, grant, space, used, working, drop or script, and has what belongs to it",
             Problem::UnknownRow => "this host has no such row",
             Problem::BadName =>
-                "a name begins with a letter or an underscore and goes on with letters, digits and underscores",
+                "a name begins with a letter and has letters, digits and underscores",
             Problem::NameTaken => "the name is taken",
             Problem::UnknownName => "nothing has this name",
             Problem::BadNumber => "no whole number that fits here",
