@@ -1,6 +1,6 @@
 // The rules of one word.
 ghost use Rattle.std.specs.Prelude.{◌≡◌};
-ghost use Rattle.checker.specs.Check.{jumps_well, is_known, judge as judge-of, is_label_lem as is-label-kind, is_loop as is-loop-kind};
+ghost use Rattle.checker.specs.Check.{jumps_well, is_known, judge as judge_of, is_label_lem as is_label_kind, is_loop as is_loop_kind};
 ghost use Rattle.checker.specs.Held.{around_in, due_in};
 
 use crate::frame::{Frame, Spot};
@@ -13,13 +13,13 @@ use words::word::{Kind, Word};
 const DEPTH_LIMIT: u32 = 100;
 
 pub(crate) fn is_label(word: Word) -> bool
-    ensures { result ≡ is-label-kind word.kind }
+    ensures { result ≡ is_label_kind word.kind }
 {
     word.kind.code() == Kind::Label.code()
 }
 
 pub(crate) fn is_loop(word: Word) -> bool
-    ensures { result ≡ is-loop-kind word.kind }
+    ensures { result ≡ is_loop_kind word.kind }
 {
     Kind::For.code() <= word.kind.code() && word.kind.code() <= Kind::Do.code()
 }
@@ -53,7 +53,7 @@ pub(crate) fn judge(
     word: Word,
     at: usize,
 ) -> Result<(), TreeFault>
-    ensures { result ≡ judge-of count (due_in labels.now iterations.now frame) word at }
+    ensures { result ≡ judge_of count (due_in labels.now iterations.now frame) word at }
 {
     if !(frame.what.admits(word.kind) && allows(word.kind, word.number)) {
         return Err(TreeFault::Format(at));

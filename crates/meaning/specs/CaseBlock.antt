@@ -1,6 +1,6 @@
 -- CaseBlockEvaluation and CaseClauseIsSelected of ECMA-262 (Runtime Semantics of the switch statement), in the
 -- standard's own order of steps, completion values aside: A is the list of clauses before the default, B that of
--- the clauses after it. `found` and `found-in-B` are the standard's, and what follows a step takes them.
+-- the clauses after it. `found` and `found_in_B` are the standard's, and what follows a step takes them.
 use Rattle.std.specs.Prelude.{Bool, true, false, cond, List, [], ◌∷◌, Some, None}
 use Rattle.words.specs.Tree.{Expression, Statements, Cases, no_case, case}
 use Rattle.host.specs.Model.{Model, Value}
@@ -52,4 +52,4 @@ module _ (m : Model) where
   case_block_evaluation (with_default A d B) input =
       each_clause input A false (λ found.
       cond found (default_and_after d B)
-      (each_clause input B false (λ found-in-B. cond found-in-B (end normal) (default_and_after d B))))
+      (each_clause input B false (λ found_in_B. cond found_in_B (end normal) (default_and_after d B))))

@@ -72,8 +72,8 @@ rows_lawful rows names accepted =
     let fine = accepted_rows rows (first_bad row_allowed 0 rows) accepted in
     let enough = fine.0 in
     let allowed = each_allowed row_allowed 0 rows fine.1 in
-    let row-0 = eqb-true (slice_index_or rows 0 no_row) literal_0 (allowed 0 (omega arith)) in
-    let row-1 = eqb-true (slice_index_or rows 1 no_row) literal_1 (allowed 1 (omega arith)) in
+    let row_0 = eqb-true (slice_index_or rows 0 no_row) literal_0 (allowed 0 (omega arith)) in
+    let row_1 = eqb-true (slice_index_or rows 1 no_row) literal_1 (allowed 1 (omega arith)) in
     record {
       at_least_two = enough;
       truth = λ e b p w v u q. truth_given e (row_at rows e) _ refl b p w v u q;
@@ -81,7 +81,7 @@ rows_lawful rows names accepted =
       effects = λ e p w. no_effects e (row_at rows e) p w;
       literal = λ e p. literal_no_effects (row_at rows e) p;
       past = λ e h. unknown_past rows names e h;
-      zero = literal_of rows names 0 0 (ap row_of row-0);
-      one = literal_of rows names 1 1 (ap row_of row-1);
+      zero = literal_of rows names 0 0 (ap row_of row_0);
+      one = literal_of rows names 1 1 (ap row_of row_1);
       leave_enter = λ scope w. refl;
     }

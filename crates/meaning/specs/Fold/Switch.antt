@@ -14,34 +14,34 @@ use Rattle.meaning.specs.Fold.Select.{drop_unreachable_switch_cases}
 
 -- Empty, or a Break where that is allowed
 unfoldable pub is_blank : Bool → Statement → Bool
-is_blank allow-break Empty = true
-is_blank allow-break Break = allow-break
-is_blank allow-break Continue = false
-is_blank allow-break (Block ss) = false
-is_blank allow-break (Expr e) = false
-is_blank allow-break (Throw e) = false
-is_blank allow-break (Var d ds) = false
-is_blank allow-break (If e s) = false
-is_blank allow-break (IfElse e s t) = false
-is_blank allow-break (For i t u s) = false
-is_blank allow-break (While e s) = false
-is_blank allow-break (Do s e) = false
-is_blank allow-break (Switch e cs) = false
-is_blank allow-break (Label l s) = false
-is_blank allow-break (BreakTo l) = false
-is_blank allow-break (ContinueTo l) = false
-is_blank allow-break (Return e) = false
-is_blank allow-break (TryCatch b x c) = false
-is_blank allow-break (TryFinally b f) = false
-is_blank allow-break (TryBoth b x c f) = false
+is_blank allow_break Empty = true
+is_blank allow_break Break = allow_break
+is_blank allow_break Continue = false
+is_blank allow_break (Block ss) = false
+is_blank allow_break (Expr e) = false
+is_blank allow_break (Throw e) = false
+is_blank allow_break (Var d ds) = false
+is_blank allow_break (If e s) = false
+is_blank allow_break (IfElse e s t) = false
+is_blank allow_break (For i t u s) = false
+is_blank allow_break (While e s) = false
+is_blank allow_break (Do s e) = false
+is_blank allow_break (Switch e cs) = false
+is_blank allow_break (Label l s) = false
+is_blank allow_break (BreakTo l) = false
+is_blank allow_break (ContinueTo l) = false
+is_blank allow_break (Return e) = false
+is_blank allow_break (TryCatch b x c) = false
+is_blank allow_break (TryFinally b f) = false
+is_blank allow_break (TryBoth b x c f) = false
 
 -- no statement, or a blank one alone
 unfoldable pub all_blank : Bool → Statements → Bool
-all_blank allow-break none = true
-all_blank allow-break (some s none) = is_blank allow-break s
-all_blank allow-break (some s (some t ss)) = false
-all_blank allow-break (some s (Let d ds ss)) = false
-all_blank allow-break (Let d ds ss) = false
+all_blank allow_break none = true
+all_blank allow_break (some s none) = is_blank allow_break s
+all_blank allow_break (some s (some t ss)) = false
+all_blank allow_break (some s (Let d ds ss)) = false
+all_blank allow_break (Let d ds ss) = false
 
 unfoldable pub is_break : Statement → Bool
 is_break Empty = false
@@ -120,7 +120,7 @@ module _ (m : Model) where
   is_literal (Some t) = literal_of m (parts_of t)
 
   unfoldable pub is_removable : Bool → Option Expression → Statements → Bool
-  is_removable allow-break t ss = all_blank allow-break ss && is_literal t
+  is_removable allow_break t ss = all_blank allow_break ss && is_literal t
 
   -- without the removable cases at the end
   unfoldable pub without_end : Cases → Cases
