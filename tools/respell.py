@@ -5,12 +5,11 @@ usage: python3 tools/respell.py [--check]      at the top of the repository; --c
 
 A name that begins with a small letter gets underscores for its dashes, one that begins with a capital is written in
 camel case: `first-bad` becomes `first_bad`, `Keeps-run` becomes `KeepsRun`. Where a file cites a definition beside
-the Rust function of its name, `_lem` tells the definition apart. Names declared in a
-function's own folder of proofs/ are not collected, since the toolchain makes them. A collected name is turned wherever
-it stands in .antt text and in the ghost text of .rt files, so a name of the library or of the toolchain that is the same
-is turned too, and has to be turned back. Strings and prose keep theirs; in comments and pages only what stands between
-backticks is respelled. Names that would fall together, or onto a name that stands in the same
-file already, are listed and stop the run.
+the Rust function of its name, `_lem` tells the definition apart. Names declared in a function's own folder of proofs/
+are not collected, since the toolchain makes them. A collected name is turned wherever it stands in .antt text and in the
+ghost text of .rt files, so a name of the library or of the toolchain that is the same is turned too, and has to be
+turned back. Strings and prose keep theirs; in comments and pages only what stands between backticks is respelled. Names
+that would fall together, or onto a name that stands in the same file already, are listed and stop the run.
 """
 import os
 import re
