@@ -112,7 +112,7 @@ impl Kind {
     }
 }
 
-// Written out, so that it says what it decides.
+// Written out, so that an edit of it can be refused; a derived one decides the same.
 impl PartialEq for Kind {
     ghost eq = { on code_of_lem ◌==◌ };
 
