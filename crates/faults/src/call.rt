@@ -1,10 +1,13 @@
 // Why a call refuses: a fault of the tree, with that of the reader inside it, or one of the call itself.
-ghost use Rattle.std.specs.Prelude.{◌≡◌};
+ghost use Rattle.std.specs.Prelude.{◌≡◌, Some};
 ghost use Rattle.faults.specs.declared.call.CallFault.TheVariants.{Tree};
 ghost use Rattle.faults.specs.Refusals.{refusal_of, number_of, layer_of, place_of};
+ghost use Rattle.faults.specs.Texts.{call_fault_text};
 
 use crate::tree::{ReaderFault, TreeFault};
 use refusals::refusal::{Layer, Refusal};
+use std::error::Error;
+use std::fmt;
 
 #[derive(Clone, Copy, PartialEq, Eq, Debug)]
 pub enum CallFault {
@@ -32,7 +35,7 @@ impl From<TreeFault> for CallFault {
     }
 }
 
-// The numbers of the refusals.
+// The numbers of the refusals: the caller is told a number, and these name it.
 const USED: u32 = 1;
 
 const TOO_LONG: u32 = 2;
@@ -57,18 +60,20 @@ const NO_SUCH_PLACE: u32 = 11;
 
 const NO_ALTERNATE: u32 = 12;
 
-impl CallFault {
-    // The number, layer and place that the caller is told.
-    pub fn refusal(self) -> Refusal
-        ensures { result ≡ refusal_of self }
-    {
+// The number, layer and place that the caller is told.
+impl From<CallFault> for Refusal {
+    ghost from_gives = { λ f r. r ≡ refusal_of f };
+
+    fn from(fault: CallFault) -> Refusal {
         Refusal {
-            number: self.number(),
-            layer: self.layer(),
-            place: self.place(),
+            number: fault.number(),
+            layer: fault.layer(),
+            place: fault.place(),
         }
     }
+}
 
+impl CallFault {
     fn number(self) -> u32
         ensures { result ≡ number_of self }
     {
@@ -107,18 +112,30 @@ impl CallFault {
         ensures { result ≡ place_of self }
     {
         match self {
-            CallFault::Used(used) => used,
-            CallFault::TooLong(used) => used,
-            CallFault::WorkingWords(count) => count,
-            CallFault::Labels(count) => count,
-            CallFault::Tree(TreeFault::Reader(ReaderFault::WordDue(word))) => word,
-            CallFault::Tree(TreeFault::Reader(ReaderFault::WordsLeft(word))) => word,
-            CallFault::Tree(TreeFault::Format(word)) => word,
-            CallFault::Tree(TreeFault::Depth(word)) => word,
-            CallFault::Tree(TreeFault::Expression(word)) => word,
-            CallFault::Tree(TreeFault::Jump(word)) => word,
-            CallFault::NoSuchPlace(place) => place,
-            CallFault::NoAlternate(place) => place,
+            CallFault::Used(count)
+            | CallFault::TooLong(count)
+            | CallFault::WorkingWords(count)
+            | CallFault::Labels(count) => count,
+            CallFault::Tree(tree) => tree.word(),
+            CallFault::NoSuchPlace(place) | CallFault::NoAlternate(place) => place,
         }
     }
 }
+
+impl fmt::Display for CallFault {
+    ghost output = { λ f. Some (call_fault_text f) };
+
+    fn fmt<W: fmt::Write>(&self, f: &mut fmt::Formatter<W>) -> fmt::Result {
+        f.write_str(match self {
+            CallFault::Used(_) => "the used length is 0 or above the space",
+            CallFault::TooLong(_) => "a script has at most 16,000 words",
+            CallFault::WorkingWords(_) => "there must be four working words for each word used",
+            CallFault::Labels(_) => "at most 16 labels can be dropped",
+            CallFault::Tree(tree) => tree.text(),
+            CallFault::NoSuchPlace(_) => "the script has no statement at this place",
+            CallFault::NoAlternate(_) => "a stub is due for an alternate that is not there",
+        })
+    }
+}
+
+impl Error for CallFault {}

@@ -1,6 +1,9 @@
 // What the checker finds wrong: a fault of the reader inside a fault of the tree.
 ghost use Rattle.std.specs.Prelude.{◌≡◌};
 ghost use Rattle.faults.specs.declared.tree.TreeFault.TheVariants.{Reader};
+ghost use Rattle.faults.specs.declared.call.CallFault.TheVariants.{Tree};
+ghost use Rattle.faults.specs.Refusals.{place_of};
+ghost use Rattle.faults.specs.Texts.{tree_fault_text, reader_fault_text};
 
 // What the reader of words finds wrong, and at which word.
 #[derive(Clone, Copy, PartialEq, Eq, Debug)]
@@ -30,5 +33,53 @@ impl From<ReaderFault> for TreeFault {
 
     fn from(fault: ReaderFault) -> TreeFault {
         TreeFault::Reader(fault)
+    }
+}
+
+impl ReaderFault {
+    // The word at which it was found.
+    fn word(self) -> usize
+        ensures { result ≡ place_of (Tree (Reader self)) }
+    {
+        match self {
+            ReaderFault::WordDue(word) | ReaderFault::WordsLeft(word) => word,
+        }
+    }
+
+    fn text(&self) -> &'static str
+        ensures { result.now ≡ reader_fault_text self.now }
+    {
+        match self {
+            ReaderFault::WordDue(_) => "a word is due here, and none is left",
+            ReaderFault::WordsLeft(_) => "the script has ended, and words are left over",
+        }
+    }
+}
+
+impl TreeFault {
+    // The word at which it was found.
+    pub(crate) fn word(self) -> usize
+        ensures { result ≡ place_of (Tree self) }
+    {
+        match self {
+            TreeFault::Reader(reader) => reader.word(),
+            TreeFault::Format(word)
+            | TreeFault::Depth(word)
+            | TreeFault::Expression(word)
+            | TreeFault::Jump(word) => word,
+        }
+    }
+
+    pub(crate) fn text(&self) -> &'static str
+        ensures { result.now ≡ tree_fault_text self.now }
+    {
+        match self {
+            TreeFault::Reader(reader) => reader.text(),
+            TreeFault::Format(_) => "a word of this kind and number may not stand here",
+            TreeFault::Depth(_) => "more than 100 statements are around this one",
+            TreeFault::Expression(_) => "the host has no such expression",
+            TreeFault::Jump(_) =>
+                "the jump has no target around it, or the label stands inside itself",
+        }
     }
 }

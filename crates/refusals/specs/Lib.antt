@@ -1,1 +1,2 @@
 pub mod HostRefusal
+pub mod Texts

@@ -1,9 +1,11 @@
 -- Script words, as docs/FORMAT.md has them: a 32-bit word is a kind, its top 5 bits, and a number, its low 27.
 -- Kinds 1 to 27 are listed; 0 and 28 to 31 are not, and are all read as Unlisted.
-use Rattle.std.specs.Prelude.{ℕ, ◌+◌, ◌*◌, ◌/◌, ◌%◌, ◌^◌, Bool, false, cond, List, [], ◌∷◌, Some, None, Option, nat_le, nat_lt, slice_index_or}
+use Rattle.std.specs.Prelude.{ℕ, ◌+◌, ◌*◌, ◌/◌, ◌%◌, ◌^◌, Bool, false, cond, List, [], ◌∷◌, Some, None, Option, Result, nat_le, nat_lt, slice_index_or}
+use Rattle.std.specs.Option.{ok_or}
 use Rattle.words.specs.declared.word.Kind.{Kind}
 use Rattle.words.specs.declared.word.Kind.TheVariants.{Unlisted, Empty, Block, Expr, Var, Let, If, For, While, Do, Switch, Label, Break, BreakTo, Continue, ContinueTo, Return, Throw, Try, Body, Catch, CatchName, Case, Default, Expression, Sequence, Name, NameInit}
 use Rattle.words.specs.declared.word.Word.{Word}
+use Rattle.words.specs.declared.word.Unwritable.{Unwritable}
 
 -- numbers are below this
 abbrev pub number_limit : ℕ
@@ -72,6 +74,10 @@ write_word w =
     cond (is_listed w.kind)
     (cond (nat_lt w.number number_limit) (Some (code w.kind * number_limit + w.number)) None)
     None
+
+-- that word, or the kind and the number that none stands for
+abbrev pub written : Word → Result ℕ Unwritable
+written w = ok_or (write_word w) (record { word = w })
 
 -- A For's number is the sum of these, for the parts that it has,
 abbrev pub for_expression : ℕ

@@ -4,21 +4,6 @@ ghost use Rattle.bounded.specs.Stack.{held, room, slots};
 
 use crate::stack::Stack;
 
-// The last of the first n.
-fn last_of<T: Copy>(items: &[T], n: usize) -> T
-    requires { (0 < n) × (n ≤ length items.now) }
-    ensures { take n items.now ≡ take (n - 1) items.now ++ result ∷ [] }
-{
-    items[n - 1]
-}
-
-// The lesser of two counts.
-fn least(a: usize, b: usize) -> usize
-    ensures { result ≡ min a b }
-{
-    if a < b { a } else { b }
-}
-
 // Each method on a `&mut` also says that the stack stays over the same slice (`lender`), with the same room:
 // a caller that goes on with the stack needs both.
 impl<'a, T: Copy + Drop> Stack<'a, T> {
@@ -51,7 +36,7 @@ impl<'a, T: Copy + Drop> Stack<'a, T> {
             return Err(value);
         }
         self.items[at] = value;
-        self.len = at + 1;
+        self.len += 1;
         Ok(())
     }
 
@@ -64,12 +49,8 @@ impl<'a, T: Copy + Drop> Stack<'a, T> {
         ensures slots { slots self.new ≡ slots self.old }
         ensures lender { self.new.items.ghost_name ≡ self.old.items.ghost_name }
     {
-        let n = self.len;
-        if n == 0 {
-            return None;
-        }
-        let top = self.items[n - 1];
-        self.len = n - 1;
+        let top = self.top()?;
+        self.len -= 1;
         Some(top)
     }
 
@@ -79,17 +60,8 @@ impl<'a, T: Copy + Drop> Stack<'a, T> {
             (held self.now ≡ [])
             (λ top. held self.now ≡ take (length (held self.now) - 1) (held self.now) ++ top ∷ []) }
     {
-        let count = self.len;
-        if count == 0 {
-            return None;
-        }
-        Some(last_of(self.items, count))
+        self.as_slice().last().copied()
     }
-
-    // Does nothing when run: it says which elements the first n of those held are.
-    fn keep_first(&self, _n: usize)
-        ensures { take (min self.now.len _n) (slots self.now) ≡ take _n (held self.now) }
-    {}
 
     // Keeps the first n, all where there are no more.
     pub fn truncate(&mut self, n: usize)
@@ -98,8 +70,7 @@ impl<'a, T: Copy + Drop> Stack<'a, T> {
         ensures slots { slots self.new ≡ slots self.old }
         ensures lender { self.new.items.ghost_name ≡ self.old.items.ghost_name }
     {
-        self.keep_first(n);
-        self.len = least(self.len, n);
+        self.len = self.len.min(n);
     }
 
     // What the stack holds, the top one last.
