@@ -1,6 +1,6 @@
 -- The format as one table, that of docs/FORMAT.md: which kinds may stand where, which numbers each kind may have,
 -- which parts follow a word and what is around them. A word and its parts are written one after another.
-use Rattle.std.specs.Prelude.{ℕ, zero, suc, ◌+◌, Bool, true, false, cond, List, [], ◌∷◌, ◌==◌, nat_le}
+use Rattle.std.specs.Prelude.{ℕ, zero, suc, ◌+◌, Bool, true, false, cond, List, [], ◌∷◌, ◌==◌, nat_le, slice_index_or}
 use Rattle.words.specs.declared.word.Kind.{Kind}
 use Rattle.words.specs.declared.word.Kind.TheVariants as kind
 use Rattle.words.specs.declared.word.Word.{Word}
@@ -93,6 +93,10 @@ two a b = four a b no_part no_part
 
 abbrev pub one : Part → Parts
 one a = four a no_part no_part no_part
+
+-- the parts of a list, none past its end
+abbrev pub parts_in : List Part → Parts
+parts_in ps = four (slice_index_or ps 0 no_part) (slice_index_or ps 1 no_part) (slice_index_or ps 2 no_part) (slice_index_or ps 3 no_part)
 
 abbrev pub for_parts_lem : ℕ → Parts
 for_parts_lem n =

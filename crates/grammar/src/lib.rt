@@ -126,7 +126,7 @@ impl What {
     pub fn after(self, kind: Kind) -> What
         ensures { result ≡ after self kind }
     {
-        if kind.code() == Kind::Default.code() {
+        if kind == Kind::Default {
             What::CaseAfterDefault
         } else {
             self

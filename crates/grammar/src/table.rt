@@ -1,6 +1,6 @@
 // The parts of each word, by its kind and number.
-ghost use Rattle.std.specs.Prelude.{◌≡◌, ◌+◌};
-ghost use Rattle.grammar.specs.Format.{part, one, two, three, four, for_parts_lem, try_parts_lem, parts, part_count};
+ghost use Rattle.std.specs.Prelude.{◌≡◌, ◌+◌, ◌≤◌, slice_index_or};
+ghost use Rattle.grammar.specs.Format.{part, no_part, parts_in, for_parts_lem, try_parts_lem, parts, part_count};
 ghost use Rattle.grammar.specs.declared.Surroundings.TheVariants.{Same, Nested};
 
 use crate::*;
@@ -36,48 +36,24 @@ impl Part {
     }
 }
 
+// The part at an index of a list, none where it ends before.
+fn part_at(parts: &[Part], i: usize) -> Part
+    ensures { result ≡ slice_index_or parts.now i no_part }
+{
+    parts.get(i).copied().unwrap_or(NO_PART)
+}
+
 impl Parts {
-    fn one(first: Part) -> Parts
-        ensures { result ≡ one first }
+    // These parts, of which there are at most four.
+    fn of<const N: usize>(parts: [Part; N]) -> Parts
+        requires { N ≤ 4 }
+        ensures { result ≡ parts_in parts.entry }
     {
         Parts {
-            first,
-            second: NO_PART,
-            third: NO_PART,
-            fourth: NO_PART,
-        }
-    }
-
-    fn two(first: Part, second: Part) -> Parts
-        ensures { result ≡ two first second }
-    {
-        Parts {
-            first,
-            second,
-            third: NO_PART,
-            fourth: NO_PART,
-        }
-    }
-
-    fn three(first: Part, second: Part, third: Part) -> Parts
-        ensures { result ≡ three first second third }
-    {
-        Parts {
-            first,
-            second,
-            third,
-            fourth: NO_PART,
-        }
-    }
-
-    fn four(first: Part, second: Part, third: Part, fourth: Part) -> Parts
-        ensures { result ≡ four first second third fourth }
-    {
-        Parts {
-            first,
-            second,
-            third,
-            fourth,
+            first: part_at(&parts, 0),
+            second: part_at(&parts, 1),
+            third: part_at(&parts, 2),
+            fourth: part_at(&parts, 3),
         }
     }
 }
@@ -86,23 +62,23 @@ impl Parts {
 fn for_parts(n: u32) -> Parts
     ensures { result ≡ for_parts_lem n }
 {
-    Parts::four(
+    Parts::of([
         Part::same(What::Expression, has(FOR_EXPRESSION, n)),
         Part::same(What::ForDeclaration, has(FOR_DECLARATION, n)),
         Part::same(What::Expression, has(FOR_TEST, n) + has(FOR_UPDATE, n)),
         Part::new(What::SingleStatement, 1, Surroundings::LoopBody),
-    )
+    ])
 }
 
 // The parts of a Try of this number.
 fn try_parts(n: u32) -> Parts
     ensures { result ≡ try_parts_lem n }
 {
-    Parts::three(
+    Parts::of([
         Part::nested(What::Body, 1),
         Part::nested(What::Catch, has(TRY_CATCH, n)),
         Part::nested(What::Body, has(TRY_FINALIZER, n)),
-    )
+    ])
 }
 
 // The parts that follow this word.
@@ -114,29 +90,29 @@ pub fn parts(word: Word) -> Parts
     let statements = Part::same(What::ListStatement, n);
     let loop_body = Part::new(What::SingleStatement, 1, Surroundings::LoopBody);
     match word.kind {
-        Kind::Block => Parts::one(Part::nested(What::ListStatement, n)),
-        Kind::Expr | Kind::Throw | Kind::NameInit => Parts::one(expression),
-        Kind::Var | Kind::Let => Parts::one(Part::same(What::Declarator, n)),
-        Kind::If => Parts::three(
+        Kind::Block => Parts::of([Part::nested(What::ListStatement, n)]),
+        Kind::Expr | Kind::Throw | Kind::NameInit => Parts::of([expression]),
+        Kind::Var | Kind::Let => Parts::of([Part::same(What::Declarator, n)]),
+        Kind::If => Parts::of([
             expression,
             Part::nested(What::SingleStatement, 1),
             Part::nested(What::SingleStatement, n),
-        ),
+        ]),
         Kind::For => for_parts(n),
-        Kind::While => Parts::two(expression, loop_body),
-        Kind::Do => Parts::two(loop_body, expression),
-        Kind::Switch => Parts::two(
+        Kind::While => Parts::of([expression, loop_body]),
+        Kind::Do => Parts::of([loop_body, expression]),
+        Kind::Switch => Parts::of([
             expression,
             Part::new(What::Case, n, Surroundings::SwitchCase),
-        ),
-        Kind::Label => Parts::one(Part::new(What::SingleStatement, 1, Surroundings::LabelBody)),
-        Kind::Return => Parts::one(Part::same(What::Expression, n)),
+        ]),
+        Kind::Label => Parts::of([Part::new(What::SingleStatement, 1, Surroundings::LabelBody)]),
+        Kind::Return => Parts::of([Part::same(What::Expression, n)]),
         Kind::Try => try_parts(n),
-        Kind::Body | Kind::Catch | Kind::Default => Parts::one(statements),
-        Kind::CatchName => Parts::two(Part::same(What::CatchParameter, 1), statements),
-        Kind::Case => Parts::two(expression, statements),
-        Kind::Sequence => Parts::one(Part::same(What::SequencePart, n)),
-        _ => Parts::one(NO_PART),
+        Kind::Body | Kind::Catch | Kind::Default => Parts::of([statements]),
+        Kind::CatchName => Parts::of([Part::same(What::CatchParameter, 1), statements]),
+        Kind::Case => Parts::of([expression, statements]),
+        Kind::Sequence => Parts::of([Part::same(What::SequencePart, n)]),
+        _ => Parts::of([]),
     }
 }
 

@@ -1,27 +1,14 @@
 -- The parts of an expression's words, and the laws of a host's answers for expressions of any length.
-use Rattle.std.proofs.Common.{◌≡◌, ℕ, ◌-◌, ◌<◌, ◌≤◌, Bool, true, false, cond, ◌||◌, eqb, List, [], ◌∷◌, map, length, get_or, take, drop, Some, None, Option, sym, refl, ap, ◌∙◌, arith, eq-eqb}
+use Rattle.std.proofs.Common.{◌≡◌, ℕ, ◌-◌, ◌<◌, Bool, true, false, cond, ◌||◌, eqb, List, [], ◌∷◌, map, length, get_or, Some, None, Option, sym, refl, ap, ◌∙◌, arith}
 use borrow.Author.Tests.{clash}
-use Rattle.std.proofs.lemmas.List.{take_all}
+use Rattle.std.specs.List.{list_any}
 use Rattle.words.specs.declared.word.Kind.TheVariants as kind
 use Rattle.words.specs.declared.word.Word.{Word}
 use Rattle.words.specs.Words.{word, code, read_word}
 use Rattle.words.specs.Tree.{Expression, expression}
 use Rattle.words.specs.Encode.{encode_expression}
 use Rattle.host.specs.Model.{Model, Lawful, Value, World, Outcome, gives, throws, no_return}
-use Rattle.host.specs.Sequence.{numbers, part_numbers, parts_of, last_number, sole_number, ask, effects_of, literal_of, and_then, evaluate_of, SequenceLaws}
-
--- what follows the word of a Sequence
-pub after_head : (words : List ℕ) → 0 < length words → code (read_word (get_or words 0 0)).kind ≡ code kind.Sequence →
-    numbers (take (length words - 1) (drop 1 words)) ≡ part_numbers words
-after_head [] h e = absurd (omega arith)
-after_head (w ∷ ws) h e =
-    let n : length ws ≤ length (w ∷ ws) - 1 = omega arith in
-    ap numbers (take_all (length (w ∷ ws) - 1) ws n)
-    ∙ sym (ap (λ (b : Bool). cond b (numbers ws) (numbers (w ∷ ws))) (eq-eqb (code (read_word w).kind) (code kind.Sequence) e))
-
-pub last_none : (words : List ℕ) → length words ≤ 0 → last_number (numbers words) ≡ None
-last_none [] h = refl
-last_none (x ∷ xs) h = absurd (omega arith)
+use Rattle.host.specs.Sequence.{numbers, part_numbers, parts_of, last_number, ask, effects_of, literal_of, and_then, evaluate_of, SequenceLaws}
 
 last_of : (x : ℕ) (xs : List ℕ) → last_number (numbers (x ∷ xs)) ≡ Some (read_word (get_or (x ∷ xs) (length xs) 0)).number
 last_of x [] = refl
@@ -33,15 +20,10 @@ last_at (x ∷ xs) h =
     let e : length xs ≡ length (x ∷ xs) - 1 = omega arith in
     last_of x xs ∙ ap (λ n. Some (read_word (get_or (x ∷ xs) n 0)).number) e
 
-pub sole_none : (words : List ℕ) → (length words ≡ 1 → ⊥) → sole_number (numbers words) ≡ None
-sole_none [] h = refl
-sole_none (w ∷ []) h = absurd (h refl)
-sole_none (w ∷ x ∷ ws) h = refl
-
-pub sole_one : (words : List ℕ) → length words ≡ 1 → sole_number (numbers words) ≡ Some (read_word (get_or words 0 0)).number
-sole_one [] h = absurd (omega arith)
-sole_one (w ∷ []) h = refl
-sole_one (w ∷ x ∷ ws) h = absurd (omega arith)
+-- any part has effects
+pub any_effects_of : (m : Model) (ws : List ℕ) → list_any (λ w. m.effects? (read_word w).number) ws ≡ effects_of m (numbers ws)
+any_effects_of m [] = refl
+any_effects_of m (w ∷ ws) = ap (λ b. m.effects? (read_word w).number || b) (any_effects_of m ws)
 
 -- a value that parts in a row give comes from those after the first
 onward : (o : Outcome Value) (next : World → Outcome Value) (v : Value) (u : World) → and_then o next ≡ gives v u → (w : World) × (next w ≡ gives v u)

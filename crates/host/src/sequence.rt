@@ -11,19 +11,19 @@ use words::word::{Kind, Word};
 fn parts(words: &[u32]) -> &[u32]
     ensures { numbers result.now ≡ part_numbers words.now }
 {
-    if words.len() == 0 || Word::read(words[0]).kind.code() != Kind::Sequence.code() {
-        return words;
+    match words.split_first() {
+        Some((first, rest)) if Word::from(*first).kind == Kind::Sequence => rest,
+        _ => words,
     }
-    &words[1..]
 }
 
 // The number of the last part.
 fn last_part(words: &[u32]) -> Option<u32>
     ensures { result ≡ last_number (part_numbers words.now) }
 {
-    match parts(words).last() {
-        Some(word) => Some(Word::read(*word).number),
-        None => None,
+    match parts(words) {
+        [.., word] => Some(Word::from(*word).number),
+        [] => None,
     }
 }
 
@@ -31,40 +31,25 @@ fn last_part(words: &[u32]) -> Option<u32>
 fn sole_part(words: &[u32]) -> Option<u32>
     ensures { result ≡ sole_number (part_numbers words.now) }
 {
-    let parts = parts(words);
-    if parts.len() != 1 {
-        return None;
+    match parts(words) {
+        [word] => Some(Word::from(*word).number),
+        _ => None,
     }
-    Some(Word::read(parts[0]).number)
 }
 
 // Whether any of the parts has effects.
 fn any_effects<H: Host>(h: &H, parts: &[u32]) -> bool
     ensures { result ≡ effects_of (H.Host.model h.now) (numbers parts.now) }
 {
-    for word in parts {
-        if h.effects(Word::read(*word).number) {
-            return true;
-        }
-    }
-    false
+    parts.iter().any(|word| h.effects(Word::from(*word).number))
 }
-
-// Does nothing when run: it carries the laws into the contracts of its callers.
-fn keep_laws<H: Host>(_h: &H, _words: &[u32])
-    ensures { SequenceLaws (H.Host.model _h.now) _words.now }
-{}
 
 // The truth of an expression, where it is known: its last part's.
 pub fn truth_of<H: Host>(h: &H, words: &[u32]) -> Option<bool>
     ensures answer { result ≡ truth_of (H.Host.model h.now) (part_numbers words.now) }
     ensures laws { SequenceLaws (H.Host.model h.now) words.now }
 {
-    keep_laws(h, words);
-    match last_part(words) {
-        Some(e) => h.truth(e),
-        None => None,
-    }
+    h.truth(last_part(words)?)
 }
 
 // The value of an expression, where it is known: its last part's.
@@ -72,11 +57,7 @@ pub fn value_of<H: Host>(h: &H, words: &[u32]) -> Option<H::Value>
     ensures answer { option_map H.Host.meaning result ≡ value_of (H.Host.model h.now) (part_numbers words.now) }
     ensures laws { SequenceLaws (H.Host.model h.now) words.now }
 {
-    keep_laws(h, words);
-    match last_part(words) {
-        Some(e) => h.value(e),
-        None => None,
-    }
+    h.value(last_part(words)?)
 }
 
 // Whether an expression has effects: whether any part has.
@@ -84,7 +65,6 @@ pub fn effects_of<H: Host>(h: &H, words: &[u32]) -> bool
     ensures answer { result ≡ effects_of (H.Host.model h.now) (part_numbers words.now) }
     ensures laws { SequenceLaws (H.Host.model h.now) words.now }
 {
-    keep_laws(h, words);
     any_effects(h, parts(words))
 }
 
@@ -93,9 +73,5 @@ pub fn literal_of<H: Host>(h: &H, words: &[u32]) -> bool
     ensures answer { result ≡ literal_of (H.Host.model h.now) (part_numbers words.now) }
     ensures laws { SequenceLaws (H.Host.model h.now) words.now }
 {
-    keep_laws(h, words);
-    match sole_part(words) {
-        Some(e) => h.literal(e),
-        None => false,
-    }
+    sole_part(words).is_some_and(|e| h.literal(e))
 }

@@ -1,6 +1,6 @@
 -- Where a scan past a part ends.
-use Rattle.std.proofs.Common.{◌≡◌, ℕ, zero, suc, ◌+◌, ◌-◌, ◌<◌, ◌≤◌, min, max, List, [], ◌∷◌, map, length, drop, Option, sym, refl, ap, ◌∙◌, ap₂, ⊎_elim, arith, length-append, length-drop}
-use Rattle.std.proofs.lemmas.List.{length-map}
+use Rattle.std.proofs.Common.{◌≡◌, ℕ, zero, suc, ◌+◌, ◌-◌, ◌<◌, ◌≤◌, min, max, List, [], ◌∷◌, map, length, take, drop, Option, sym, refl, ap, ◌∙◌, ap₂, ⊎_elim, arith, length-append, length-drop}
+use Rattle.std.proofs.lemmas.List.{length-map, length-take-le, take_all, drop-map, drop_all, drop-drop}
 use Rattle.std.proofs.lemmas.Bool.{cases_lt}
 use Rattle.words.specs.declared.word.Word.{Word}
 use Rattle.words.specs.declared.word.Kind.TheVariants as kind
@@ -63,6 +63,29 @@ ends xs at r from within e = record {
   declarator = ends_at encode_declarator skips_declarator xs at r from within e;
   expression = ends_at encode_expression skips_expression xs at r from within e;
 }
+
+-- the words from a place on, none past their end
+pub words_from : (xs : List ℕ) (at k : ℕ) → k ≡ min at (length xs) → map read_word (take (length xs - k) (drop k xs)) ≡ drop at (map read_word xs)
+words_from xs at k e =
+    let whole : take (length xs - k) (drop k xs) ≡ drop k xs = take_all (length xs - k) (drop k xs) (simp length-drop (omega arith)) in
+    let ws = map read_word xs in
+    ap (map read_word) whole ∙ sym (drop-map read_word k xs) ∙ ⊎_elim
+    (λ (l : length xs < at). drop_all k ws (simp length-map (omega arith)) ∙ sym (drop_all at ws (simp length-map (omega arith))))
+    (λ (l : at ≤ length xs). ap (λ n. drop n ws) (let s : k ≡ at = omega arith in s))
+    (cases_lt (length xs) at)
+
+pub count_from : (xs : List ℕ) (k : ℕ) → length (take (length xs - k) (drop k xs)) ≡ length xs - k
+count_from xs k = length-take-le (length xs - k) (drop k xs) (simp length-drop (omega arith))
+
+-- what is left past one part, where no part is due any more, and where no word is left
+pub none_due : (ws rest : List Word) (at r k : ℕ) → rest ≡ drop at ws → skip k (drop r rest) ≡ skip 1 rest → k ≡ 0 → drop (at + r) ws ≡ skip 1 (drop at ws)
+none_due ws rest at r k e h z =
+    sym (drop-drop r at ws) ∙ ap (drop r) (sym e) ∙ ap (λ n. skip n (drop r rest)) (sym z) ∙ h ∙ ap (skip 1) e
+
+pub none_left : (ws rest : List Word) (at r k n : ℕ) → rest ≡ drop at ws → skip k (drop r rest) ≡ skip 1 rest → length rest ≡ n → n ≤ r → drop (at + n) ws ≡ skip 1 (drop at ws)
+none_left ws rest at r k n e h l z =
+    sym (drop-drop n at ws) ∙ ap (drop n) (sym e) ∙ drop_all n rest (omega arith) ∙ sym (skip_none k)
+    ∙ ap (skip k) (sym (drop_all r rest (omega arith))) ∙ h ∙ ap (skip 1) e
 
 one_tree : {Tree : Type 0} (words_of : Tree → List Word) → ((t : Tree) → One words_of t) → (ws : List Word) → OneTree words_of ws
 one_tree words_of f ws s t p q a b = f s t p q (sym a ∙ b)

@@ -2,7 +2,7 @@
 
 #![tactic(auto)]
 
-ghost use Rattle.std.specs.Prelude.{◌≡◌, ◌+◌, ◌<◌, ◌≤◌, max, map, length, drop, slice_index};
+ghost use Rattle.std.specs.Prelude.{◌≡◌, ◌+◌, ◌<◌, ◌≤◌, max, map, length, drop};
 ghost use Rattle.words.specs.Words.{read_word, max_words};
 ghost use Rattle.grammar.specs.Format.{skip};
 ghost use Rattle.scan.specs.Scan.{end_from, Ends, Unique};
@@ -23,13 +23,15 @@ pub fn end_of(words: &[u32], at: usize) -> usize
     ensures ends { Ends (map read_word words.now) at result }
     ensures unique { Unique (drop at (map read_word words.now)) }
 {
-    let mut end = at;
+    let rest = &words[at.min(words.len())..];
     let mut due: usize = 1;
-    while due > 0 && end < words.len() {
-        due = (due - 1).saturating_add(part_count(Word::read(words[end])));
-        end += 1;
+    for (read, word) in rest.iter().enumerate() {
+        if due == 0 {
+            return at + read;
+        }
+        due = (due - 1).saturating_add(part_count(Word::from(*word)));
     }
-    end
+    at + rest.len()
 }
 
 // What a word weighs by itself.
@@ -49,7 +51,7 @@ fn kind_weight(kind: Kind) -> u32
     ensures value { result ≡ weight_kind kind }
     ensures small { result ≤ 3 }
 {
-    if kind.is_between(Kind::Switch, Kind::Switch) {
+    if kind == Kind::Switch {
         SWITCH
     } else if kind.is_between(Kind::Block, Kind::Try) {
         STATEMENT
@@ -64,37 +66,31 @@ fn kind_weight(kind: Kind) -> u32
 fn is_constant(word: Word) -> bool
     ensures { result ≡ is_constant_lem word }
 {
-    word.kind.is_between(Kind::Expression, Kind::Expression) && word.number <= LAST_CONSTANT
+    word.kind == Kind::Expression && word.number <= LAST_CONSTANT
 }
 
-// What an If weighs more for the test that begins at a word.
-fn test_weight(words: &[u32], at: usize) -> u32
-    ensures value { result ≡ test_words (drop at (map read_word words.now)) }
+// What an If weighs more for the test that these words begin with.
+fn test_weight(words: &[u32]) -> u32
+    ensures value { result ≡ test_words (map read_word words.now) }
     ensures small { result ≤ 1 }
 {
-    if at >= words.len() {
-        return 1;
-    }
-    if is_constant(Word::read(words[at])) {
-        0
-    } else {
-        1
+    match words {
+        [word, ..] if is_constant(Word::from(*word)) => 0,
+        _ => 1,
     }
 }
 
-// What the word at a place weighs, seen with those after it.
-fn weight_at(words: &[u32], at: usize) -> u32
-    requires { at < length words.now }
-    ensures value { result ≡ weight_first (read_word (slice_index words.now at)) (drop (at + 1) (map read_word words.now)) }
+// What a word weighs, seen with those after it.
+fn first_weight(word: Word, after: &[u32]) -> u32
+    ensures value { result ≡ weight_first word (map read_word after.now) }
     ensures small { result ≤ 4 }
 {
-    let kind = Word::read(words[at]).kind;
-    let test = if kind.is_between(Kind::If, Kind::If) {
-        test_weight(words, at + 1)
+    let test = if word.kind == Kind::If {
+        test_weight(after)
     } else {
         0
     };
-    kind_weight(kind) + test
+    kind_weight(word.kind) + test
 }
 
 // What the words of a script weigh.
@@ -104,8 +100,10 @@ pub fn weigh(words: &[u32]) -> u32
     ensures tree { (ss : Statements) → map read_word words.now ≡ encode_body ss → result ≡ weight_body ss }
 {
     let mut weight = 0;
-    for i in 0..words.len() {
-        weight += weight_at(words, i);
+    let mut rest = words;
+    while let [word, after @ ..] = rest {
+        weight += first_weight(Word::from(*word), after);
+        rest = after;
     }
     weight
 }
@@ -114,7 +112,7 @@ pub fn weigh(words: &[u32]) -> u32
 fn declares(word: Word) -> bool
     ensures { result ≡ declares word }
 {
-    word.kind.is_between(Kind::For, Kind::For) && has(FOR_DECLARATION, word.number) == 1
+    word.kind == Kind::For && has(FOR_DECLARATION, word.number) == 1
 }
 
 // Whether a word begins a statement, given whether it is a For's declaration.
@@ -131,8 +129,8 @@ pub fn statements(words: &[u32]) -> usize
 {
     let mut count = 0;
     let mut declaration = false;
-    for i in 0..words.len() {
-        let word = Word::read(words[i]);
+    for word in words {
+        let word = Word::from(*word);
         if begins_statement(declaration, word) {
             count += 1;
         }
@@ -148,8 +146,8 @@ pub fn find_statement(words: &[u32], place: usize) -> Option<usize>
 {
     let mut left = place;
     let mut declaration = false;
-    for i in 0..words.len() {
-        let word = Word::read(words[i]);
+    for (i, word) in words.iter().enumerate() {
+        let word = Word::from(*word);
         if begins_statement(declaration, word) {
             if left == 0 {
                 return Some(i);

@@ -9,8 +9,8 @@ use Rattle.scan.proofs.find_statement.Goals.{then-begins_statement+else-left-eq0
 pub returns-then-left-eq0 : goal.returns-then-left-eq0
 returns-then-left-eq0 c =
     let xs = c.args.words.now in
-    let step = places_step xs c.loop-i.i c.loop-i.declaration c.begins_statement.result _ c.read-word.result
-    c.loop-i-test.true c.read-word.ensures.value c.begins_statement.ensures refl in
+    let step = places_step xs c.loop-i.i c.loop-i.declaration c.begins_statement.result _ c.from-word.result
+    c.loop-i-test.true c.from-word.ensures.value c.begins_statement.ensures refl in
     let done : Some c.loop-i.i ≡ at_place c.args.place (places_words (map read_word xs)) =
     sym (found_here c.begins_statement.result c.loop-i.left c.loop-i.i _ c.if-begins_statement.true c.if-left-eq0.true)
     ∙ sym (ap (at_place c.loop-i.left) step) ∙ c.loop-i.invariant in
@@ -21,8 +21,8 @@ loop-i-preserved c =
     let xs = c.args.words.now in
     let b = c.begins_statement.result in
     let ps = places_from (c.loop-i.i + 1) c.declares-declaration.result (drop (c.loop-i.i + 1) (map read_word xs)) in
-    let step = places_step xs c.loop-i.i c.loop-i.declaration b c.declares-declaration.result c.read-word.result
-    c.loop-i-test.true c.read-word.ensures.value c.begins_statement.ensures c.declares-declaration.ensures in
+    let step = places_step xs c.loop-i.i c.loop-i.declaration b c.declares-declaration.result c.from-word.result
+    c.loop-i-test.true c.from-word.ensures.value c.begins_statement.ensures c.declares-declaration.ensures in
     elim c.if-begins_statement.branch [
       | then-begins_statement+else-left-eq0 w ↦
           ap (λ n. at_place n ps) w.left-is
