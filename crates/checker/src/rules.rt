@@ -1,6 +1,6 @@
 // The rules of one word.
 ghost use Rattle.std.specs.Prelude.{◌≡◌};
-ghost use Rattle.checker.specs.Check.{jumps_well, is_known, judge as judge_of, is_label_lem as is_label_kind, is_loop as is_loop_kind};
+ghost use Rattle.checker.specs.Check.{jumps_well, is_known, judge as judge_of};
 ghost use Rattle.checker.specs.Held.{around_in, due_in};
 
 use crate::frame::{Frame, Spot};
@@ -11,18 +11,6 @@ use words::word::{Kind, Word};
 
 // Statements and cases have at most so many statements around them.
 const DEPTH_LIMIT: u32 = 100;
-
-pub(crate) fn is_label(word: Word) -> bool
-    ensures { result ≡ is_label_kind word.kind }
-{
-    word.kind.code() == Kind::Label.code()
-}
-
-pub(crate) fn is_loop(word: Word) -> bool
-    ensures { result ≡ is_loop_kind word.kind }
-{
-    Kind::For.code() <= word.kind.code() && word.kind.code() <= Kind::Do.code()
-}
 
 // The jump and label rules.
 fn has_target(labels: &[u32], iterations: &[u32], spot: Spot, word: Word) -> bool
@@ -41,7 +29,7 @@ fn has_target(labels: &[u32], iterations: &[u32], spot: Spot, word: Word) -> boo
 fn is_expression_known(count: u32, word: Word) -> bool
     ensures { result ≡ is_known count word.kind word.number }
 {
-    word.kind.code() != Kind::Expression.code() || word.number < count
+    word.kind != Kind::Expression || word.number < count
 }
 
 // Holds a word against what is due: the first rule that it breaks.
