@@ -34,12 +34,8 @@ fn check_lengths(space: usize, used: usize, working: usize, labels: usize) -> Re
     Ok(())
 }
 
-// Does nothing when run: it carries the laws into the contract of its caller.
-fn keep_laws<H: Host>(_host: &H, _space: &[u32], _used: usize, _working: usize, _labels: usize)
-    ensures { LoadLaws (H.Host.model _host.now).count _space.now _used _working _labels }
-{}
-
 // Checks a script and answers its new record; the working words are 0 afterwards. A refusal changes nothing.
+#[tactic(auto, using(crate::proofs::Loads::load_laws))]
 pub fn load<H: Host>(
     host: &H,
     space: &mut [u32],
@@ -52,9 +48,8 @@ pub fn load<H: Host>(
     ensures working { working.new ≡ (if is_ok result then replicate (length working.old) 0 else working.old) }
     ensures laws { LoadLaws (H.Host.model host.now).count space.old used (length working.old) (length labels.now) }
 {
-    keep_laws(host, space, used, working.len(), labels.len());
     check_lengths(space.len(), used, working.len(), labels.len())?;
-    let words = &space[0..used];
+    let words = &space[..used];
     check(host.count(), words)?;
     let weight = weigh(words);
     working.fill(0);

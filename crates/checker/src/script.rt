@@ -147,6 +147,7 @@ fn run(count: u32, words: &[u32]) -> Result<(), TreeFault>
 
 // Whether the words are a script for a host of so many expressions; where they are not, what is wrong with the
 // first word that breaks a rule.
+#[tactic(auto, using(crate::proofs::Lawful::laws))]
 pub fn check(count: u32, words: &[u32]) -> Result<(), TreeFault>
     ensures verdict { result ≡ check_script count (map read_word words.now) }
     ensures laws { Laws count words.now }

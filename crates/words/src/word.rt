@@ -117,6 +117,7 @@ impl Kind {
 impl From<u32> for Word {
     ghost from_gives = { λ w r. r ≡ read_word w };
 
+    #[tactic(auto, using(crate::proofs::Coding::written_back))]
     fn from(word: u32) -> Word
         ensures value { result ≡ read_word word }
         ensures written { is_listed result.kind ≡ true → write_word result ≡ Some word }
