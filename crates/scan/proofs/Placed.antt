@@ -1,5 +1,5 @@
 -- The places of a tree are those that a scan over its words finds.
-use Rattle.std.proofs.Common.{◌≡◌, ℕ, zero, suc, ◌+◌, ◌-◌, ◌<◌, Bool, true, false, cond, eqb, List, [], ◌∷◌, ◌++◌, map, length, get_or, drop, Some, None, Option, sym, refl, ap, ◌∙◌, ap₂, append_assoc, append-nil, arith, length-append}
+use Rattle.std.proofs.Common.{◌≡◌, ℕ, zero, suc, ◌+◌, ◌-◌, ◌<◌, ◌≤◌, Bool, true, false, cond, eqb, List, [], ◌∷◌, ◌++◌, map, length, get_or, Some, None, Option, sym, refl, ap, ◌∙◌, ap₂, append_assoc, append-nil, arith, length-append, filter}
 use Rattle.words.specs.declared.word.Kind.TheVariants as kind
 use Rattle.words.specs.declared.word.Word.{Word}
 use Rattle.words.specs.Words.{word, read_word}
@@ -7,8 +7,10 @@ use Rattle.words.specs.Tree.{Expression, expression, Declarator, Name, NameInit,
 use Rattle.words.specs.Tree.{Statement, Empty, Break, Continue, Block, Expr, Throw, Var, If, IfElse, For, While, Do, Switch, Label, BreakTo, ContinueTo, Return, TryCatch, TryFinally, TryBoth}
 use Rattle.words.specs.Tree.{Statements, none, some, Let, Cases, no_case, case}
 use Rattle.words.specs.Encode.{encode_expression, encode_optional, encode_declarator, encode_declarators, encode_start, for_number, count, catch_head, case_head, encode, encode_list, encode_cases, encode_body}
-use Rattle.scan.specs.Places.{places, places_list, places_cases, places_body, declares, begins_statement_lem, places_from, places_words, at_place}
-use Rattle.encoding.proofs.Loops.{words_more}
+use Rattle.scan.specs.Places.{places, places_list, places_cases, places_body, declares, begins_statement_lem, begins_from, begins_at, places_from, places_words, at_place}
+use Rattle.std.specs.Option.{option_map}
+use Rattle.std.specs.List.{range_with_len, slice_get}
+use Rattle.std.proofs.lemmas.List.{length-map}
 use Rattle.encoding.proofs.ForNumber.{by_declaration, for_has}
 
 -- a scan over the words finds these places, given where the words begin, and then goes on after them
@@ -143,30 +145,54 @@ pub places_of_body : (ss : Statements) → places_words (encode_body ss) ≡ pla
 places_of_body ss =
     ap (places_from 1 false) (sym (append-nil (encode_list ss))) ∙ (placed_list ss).placed 1 [] ∙ append-nil (places_list 1 ss)
 
--- A loop over the words, a word on: b says whether it begins a statement, e whether it is a For that declares.
-pub places_step : (xs : List ℕ) (i : ℕ) (d b e : Bool) (w : Word) → i < length xs → w ≡ read_word (get_or xs i 0) → b ≡ begins_statement_lem d w → e ≡ declares w →
-    places_from i d (drop i (map read_word xs)) ≡ cond b (i ∷ []) [] ++ places_from (i + 1) e (drop (i + 1) (map read_word xs))
-places_step xs i d b e w h v p q =
-    words_more (places_from i d) xs i h
-    ∙ ap (λ k. cond (begins_statement_lem d (read_word (get_or xs i 0))) (i ∷ []) [] ++ places_from k (declares (read_word (get_or xs i 0))) (drop (i + 1) (map read_word xs))) (let n : suc i ≡ i + 1 = omega arith in n)
-    ∙ ap₂ (λ x y. cond x (i ∷ []) [] ++ places_from (i + 1) y (drop (i + 1) (map read_word xs)))
-    (sym (p ∙ ap (begins_statement_lem d) v)) (sym (q ∙ ap declares v))
+-- Word by word: a statement begins past the end nowhere, and else as the word before says.
+pub begins_none : (d : Bool) (xs : List ℕ) (n : ℕ) → length xs ≤ n → begins_from d (map read_word xs) n ≡ false
+begins_none d [] n h = refl
+begins_none d (x ∷ xs) zero h = absurd (omega arith)
+begins_none d (x ∷ xs) (suc n) h = begins_none (declares (read_word x)) xs n (omega arith)
 
--- how many statements begin here and after
-pub count_statement : (b : Bool) (i : ℕ) (ps : List ℕ) → b ≡ true → length (cond b (i ∷ []) [] ++ ps) ≡ suc (length ps)
-count_statement b i ps p = ap (λ x. length (cond x (i ∷ []) [] ++ ps)) p
+pub begins_first : (d : Bool) (xs : List ℕ) (n : ℕ) → n ≡ 0 → n < length xs → begins_from d (map read_word xs) n ≡ begins_statement_lem d (read_word (get_or xs n 0))
+begins_first d [] n z h = absurd (omega arith)
+begins_first d (x ∷ xs) zero z h = refl
+begins_first d (x ∷ xs) (suc n) z h = absurd (omega arith)
 
-pub count_no_statement : (b : Bool) (i : ℕ) (ps : List ℕ) → b ≡ false → length (cond b (i ∷ []) [] ++ ps) ≡ length ps
-count_no_statement b i ps p = ap (λ x. length (cond x (i ∷ []) [] ++ ps)) p
+begins_suc : (d : Bool) (xs : List ℕ) (n : ℕ) → suc n < length xs →
+    begins_from d (map read_word xs) (suc n) ≡ begins_statement_lem (declares (read_word (get_or xs n 0))) (read_word (get_or xs (suc n) 0))
+begins_suc d [] n h = absurd (omega arith)
+begins_suc d (x ∷ []) n h = absurd (omega arith)
+begins_suc d (x ∷ y ∷ ys) zero h = refl
+begins_suc d (x ∷ y ∷ ys) (suc n) h = begins_suc (declares (read_word x)) (y ∷ ys) n (omega arith)
 
--- the statement at a place: this one, or one of those after it
-pub found_here : (b : Bool) (n i : ℕ) (ps : List ℕ) → b ≡ true → n ≡ 0 → at_place n (cond b (i ∷ []) [] ++ ps) ≡ Some i
-found_here b n i ps p z = ap₂ (λ x m. at_place m (cond x (i ∷ []) [] ++ ps)) p z
+pub begins_next : (d : Bool) (xs : List ℕ) (n : ℕ) → (n ≡ 0 → ⊥) → n < length xs →
+    begins_from d (map read_word xs) n ≡ begins_statement_lem (declares (read_word (get_or xs (n - 1) 0))) (read_word (get_or xs n 0))
+begins_next d xs zero z h = absurd (z refl)
+begins_next d xs (suc n) z h =
+    begins_suc d xs n h ∙ ap (λ k. begins_statement_lem (declares (read_word (get_or xs k 0))) (read_word (get_or xs (suc n) 0))) (let e : n ≡ suc n - 1 = omega arith in e)
 
-pub found_later : (b : Bool) (n i : ℕ) (ps : List ℕ) → b ≡ true → (n ≡ 0 → ⊥) → at_place n (cond b (i ∷ []) [] ++ ps) ≡ at_place (n - 1) ps
-found_later b zero i ps p z = absurd (z refl)
-found_later b (suc n) i ps p z =
-    ap (λ x. at_place (suc n) (cond x (i ∷ []) [] ++ ps)) p ∙ ap (λ m. at_place m ps) (let e : n ≡ suc n - 1 = omega arith in e)
+one_place : (b : Bool) (i : ℕ) (ps : List ℕ) → cond b (i ∷ ps) ps ≡ cond b (i ∷ []) [] ++ ps
+one_place true i ps = refl
+one_place false i ps = refl
 
-pub found_no_statement : (b : Bool) (n i : ℕ) (ps : List ℕ) → b ≡ false → at_place n (cond b (i ∷ []) [] ++ ps) ≡ at_place n ps
-found_no_statement b n i ps p = ap (λ x. at_place n (cond x (i ∷ []) [] ++ ps)) p
+-- the words where statements begin are the places
+places_filter : (ws : List Word) (d : Bool) (i : ℕ) (q : ℕ → Bool) → ((n : ℕ) → q (i + n) ≡ begins_from d ws n) → filter q (range_with_len i (length ws)) ≡ places_from i d ws
+places_filter [] d i q h = refl
+places_filter (w ∷ ws) d i q h =
+    let here : q i ≡ begins_statement_lem d w = ap q (let e : i ≡ i + 0 = omega arith in e) ∙ h 0 in
+    let later : (n : ℕ) → q (i + 1 + n) ≡ begins_from (declares w) ws n = λ n. ap q (let e : i + 1 + n ≡ i + suc n = omega arith in e) ∙ h (suc n) in
+    let rest = places_filter ws (declares w) (i + 1) q later ∙ ap (λ k. places_from k (declares w) ws) (let e : i + 1 ≡ suc i = omega arith in e) in
+    ap₂ (λ b ps. cond b (i ∷ ps) ps) here rest ∙ one_place (begins_statement_lem d w) i (places_from (suc i) (declares w) ws)
+
+pub places_of_words : (xs : List ℕ) → filter (begins_at (map read_word xs)) (range_with_len 0 (length xs)) ≡ places_words (map read_word xs)
+places_of_words xs =
+    let ws = map read_word xs in
+    ap (λ n. filter (begins_at ws) (range_with_len 0 n)) (sym (length-map xs read_word))
+    ∙ places_filter ws false 0 (begins_at ws) (λ n. ap (begins_at ws) (let e : 0 + n ≡ n = omega arith in e))
+
+pub place_get : (ps : List ℕ) (n : ℕ) → slice_get ps n ≡ at_place n ps
+place_get [] n = refl
+place_get (p ∷ ps) zero = refl
+place_get (p ∷ ps) (suc n) = place_get ps n
+
+pub found : (o : Option ℕ) → o ≡ option_map (λ n. n) o
+found None = refl
+found (Some n) = refl

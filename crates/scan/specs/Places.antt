@@ -72,6 +72,15 @@ places_from i declaration [] = []
 places_from i declaration (w ∷ ws) =
     cond (begins_statement_lem declaration w) (i ∷ []) [] ++ places_from (suc i) (declares w) ws
 
+-- the same of one word: whether a statement begins at it
+abbrev pub begins_from : Bool → List Word → ℕ → Bool
+begins_from declaration [] n = false
+begins_from declaration (w ∷ ws) zero = begins_statement_lem declaration w
+begins_from declaration (w ∷ ws) (suc n) = begins_from (declares w) ws n
+
+abbrev pub begins_at : List Word → ℕ → Bool
+begins_at ws n = begins_from false ws n
+
 abbrev pub places_words : List Word → List ℕ
 places_words ws = places_from 0 false ws
 

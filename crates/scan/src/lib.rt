@@ -8,7 +8,7 @@ ghost use Rattle.grammar.specs.Format.{skip};
 ghost use Rattle.scan.specs.Scan.{end_from, Ends, Unique};
 ghost use Rattle.words.specs.Tree.{Statements};
 ghost use Rattle.words.specs.Encode.{encode_body};
-ghost use Rattle.scan.specs.Places.{declares, begins_statement_lem, places_words, places_body, at_place};
+ghost use Rattle.scan.specs.Places.{declares, begins_statement_lem, begins_at, places_words, places_body, at_place};
 ghost use Rattle.scan.specs.Weight.{weight_kind, is_constant_lem, test_words, weight_first, weight_words, weight_body};
 
 use grammar::table::part_count;
@@ -116,10 +116,24 @@ fn declares(word: Word) -> bool
 }
 
 // Whether a word begins a statement, given whether it is a For's declaration.
-fn begins_statement(declaration: bool, word: Word) -> bool
+fn is_statement(declaration: bool, word: Word) -> bool
     ensures { result ≡ begins_statement_lem declaration word }
 {
     !declaration && word.kind.is_between(Kind::Empty, Kind::Try)
+}
+
+// Whether a statement begins at a place of the words.
+fn begins_statement(words: &[u32], at: usize) -> bool
+    ensures { result ≡ begins_at (map read_word words.now) at }
+{
+    if at >= words.len() {
+        return false;
+    }
+    let word = Word::from(words[at]);
+    if at == 0 {
+        return is_statement(false, word);
+    }
+    is_statement(declares(Word::from(words[at - 1])), word)
 }
 
 // How many statements the words have.
@@ -127,16 +141,9 @@ pub fn statements(words: &[u32]) -> usize
     ensures value { result ≡ length (places_words (map read_word words.now)) }
     ensures tree { (ss : Statements) → map read_word words.now ≡ encode_body ss → result ≡ length (places_body ss) }
 {
-    let mut count = 0;
-    let mut declaration = false;
-    for word in words {
-        let word = Word::from(*word);
-        if begins_statement(declaration, word) {
-            count += 1;
-        }
-        declaration = declares(word);
-    }
-    count
+    (0..words.len())
+        .filter(|at| begins_statement(words, *at))
+        .count()
 }
 
 // The word where the statement at a place begins; none where there are not so many statements.
@@ -144,17 +151,7 @@ pub fn find_statement(words: &[u32], place: usize) -> Option<usize>
     ensures value { result ≡ at_place place (places_words (map read_word words.now)) }
     ensures tree { (ss : Statements) → map read_word words.now ≡ encode_body ss → result ≡ at_place place (places_body ss) }
 {
-    let mut left = place;
-    let mut declaration = false;
-    for (i, word) in words.iter().enumerate() {
-        let word = Word::from(*word);
-        if begins_statement(declaration, word) {
-            if left == 0 {
-                return Some(i);
-            }
-            left -= 1;
-        }
-        declaration = declares(word);
-    }
-    None
+    (0..words.len())
+        .filter(|at| begins_statement(words, *at))
+        .nth(place)
 }
