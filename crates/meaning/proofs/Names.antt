@@ -1,5 +1,5 @@
 -- Names left of a list: the algebra, and the names of stubs and joined lists.
-use Rattle.std.proofs.Common.{◌≡◌, ℕ, Bool, true, false, cond, eqb, List, [], ◌∷◌, ◌++◌, map, sym, refl, ap, ◌∙◌, append_assoc, arith, eqb→eq}
+use Rattle.std.proofs.Common.{◌≡◌, ℕ, Bool, true, false, cond, eqb, List, [], ◌∷◌, ◌++◌, map, sym, refl, ap, ◌∙◌, append_assoc, arith, eqb→eq, ◌||◌}
 use Rattle.host.specs.Model.{Model}
 use Rattle.words.specs.Tree.{Declarator, Name, NameInit}
 use Rattle.words.specs.Tree.{Statements, none, some, Let}
@@ -59,16 +59,16 @@ module _ (m : Model) where
       go : (b : Bool) → m.granted? x ≡ b → NamesLeft m xs (not_granted m xs) → NamesLeft m (x ∷ xs) (cond b (not_granted m xs) (x ∷ not_granted m xs))
       go true e p = record { old = λ y q. here y (among y xs) (p.old y q); granted = λ y q r. gone y q r (eqb x y) refl }
         where
-          here : (y : ℕ) (b : Bool) → b ≡ true → cond (eqb x y) true b ≡ true
+          here : (y : ℕ) (b : Bool) → b ≡ true → eqb x y || b ≡ true
           here y b q = pick (eqb x y)
             where
-              pick : (c : Bool) → cond c true b ≡ true
+              pick : (c : Bool) → c || b ≡ true
               pick true = refl
               pick false = q
 
           gone : (y : ℕ) → among y (x ∷ xs) ≡ true → among y (not_granted m xs) ≡ false → (c : Bool) → eqb x y ≡ c → m.granted? y ≡ true
           gone y q r true s = ap m.granted? (sym (eqb→eq x y (rw s tt))) ∙ e
-          gone y q r false s = p.granted y (sym (ap (λ c. cond c true (among y xs)) s) ∙ q) r
+          gone y q r false s = p.granted y (sym (ap (λ c. c || among y xs) s) ∙ q) r
       go false e p = left_append (x ∷ []) (x ∷ []) xs (not_granted m xs) (left_same (x ∷ [])) p
 
 bound_map : (xs : List ℕ) → bound_names (map Name xs) ≡ xs

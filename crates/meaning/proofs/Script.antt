@@ -1,5 +1,5 @@
 -- The jumps of an accepted script stay inside it.
-use Rattle.std.proofs.Common.{◌≡◌, ℕ, Bool, true, false, cond, eqb, List, [], ◌∷◌, ◌++◌, refl, ap, subst, arith}
+use Rattle.std.proofs.Common.{◌≡◌, ℕ, Bool, true, false, cond, eqb, List, [], ◌∷◌, ◌++◌, refl, ap, subst, arith, ◌||◌}
 use Rattle.host.specs.Model.{Model, by_var, by_let}
 use Rattle.meaning.specs.Completion.{Ending, normal, break, continue, gone, spent, break_to, continue_to, return, throw, loop_continues, without_break, without_break_to}
 use Rattle.meaning.specs.Run.{let_names, let_names_cases, switch, run, run_list, run_cases, run_body}
@@ -33,7 +33,7 @@ pub among_either : (l : ℕ) (xs ys : List ℕ) → among l (xs ++ ys) ≡ true 
 among_either l [] ys p q = cc
 among_either l (x ∷ xs) ys p q = go (eqb x l) (among_either l xs ys) p
   where
-    go : (b : Bool) → (among l (xs ++ ys) ≡ true → among l ys ≡ false → among l xs ≡ true) → cond b true (among l (xs ++ ys)) ≡ true → cond b true (among l xs) ≡ true
+    go : (b : Bool) → (among l (xs ++ ys) ≡ true → among l ys ≡ false → among l xs ≡ true) → b || among l (xs ++ ys) ≡ true → b || among l xs ≡ true
     go true r p = refl
     go false r p = r p q
 
@@ -61,7 +61,7 @@ leaves_switch a (return v) p = tt
 leaves_switch a (throw v) p = tt
 
 among_last : (t l : ℕ) (xs : List ℕ) → among t (xs ++ l ∷ []) ≡ true → eqb l t ≡ false → among t xs ≡ true
-among_last t l xs p q = among_either t xs (l ∷ []) p (ap (λ b. cond b true false) q)
+among_last t l xs p q = among_either t xs (l ∷ []) p (ap (λ b. b || false) q)
 
 leaves_label : (a : Around) (l : ℕ) (e : Ending) → Allowed (labelled l a) e → Allowed a (without_break_to l e)
 leaves_label a l normal p = tt

@@ -1,5 +1,5 @@
 -- Surroundings: what keeps the rules in some keeps them in wider ones, and labels that no ContinueTo inside goes to change nothing.
-use Rattle.std.proofs.Common.{◌≡◌, ℕ, zero, suc, ◌≤◌, Bool, true, false, cond, eqb, List, [], ◌∷◌, ◌++◌, Option, sym, refl, ap, ◌∙◌, le_trans, arith, eqb→eq}
+use Rattle.std.proofs.Common.{◌≡◌, ℕ, zero, suc, ◌≤◌, Bool, true, false, cond, eqb, List, [], ◌∷◌, ◌++◌, Option, sym, refl, ap, ◌∙◌, le_trans, arith, eqb→eq, ◌||◌}
 use Rattle.host.specs.Model.{Model, by_var, by_let}
 use Rattle.meaning.specs.Completion.{Ending, normal, break, continue, gone, spent, break_to, continue_to, return, throw, Evaluation, loop_continues, without_break, end, ◌thereafter◌, ◌then◌, with_label, one_round, if_continues, turns, loop}
 use Rattle.meaning.specs.Run.{bound_names, eval, branch, branch_optional, declare, scope, while_loop, do_loop, for_body, for_loop, run}
@@ -17,7 +17,7 @@ pub among_append : (l : ℕ) (xs ys : List ℕ) → among l (xs ++ ys) ≡ cond 
 among_append l [] ys = refl
 among_append l (x ∷ xs) ys = go (eqb x l) (among_append l xs ys)
   where
-    go : (b : Bool) → among l (xs ++ ys) ≡ cond (among l xs) true (among l ys) → cond b true (among l (xs ++ ys)) ≡ cond (cond b true (among l xs)) true (among l ys)
+    go : (b : Bool) → among l (xs ++ ys) ≡ cond (among l xs) true (among l ys) → (b || among l (xs ++ ys)) ≡ cond (b || among l xs) true (among l ys)
     go true r = refl
     go false r = r
 
@@ -155,7 +155,7 @@ sound_loop a p = record { apart = λ l q. refl; targets = λ l. both_in l a.iter
 
 pub sound_labelled : (a : Around) (l : ℕ) → among l a.labels ≡ false → Sound a → Sound (labelled l a)
 sound_labelled a l new p = record {
-  apart = λ x q. among_append x a.label_set (l ∷ []) ∙ (λ i. cond (p.apart x q i) true (cond (other x q i) true false));
+  apart = λ x q. among_append x a.label_set (l ∷ []) ∙ (λ i. cond (p.apart x q i) true (other x q i || false));
   targets = λ x q. append_more x a.labels [] a.labels (l ∷ []) (λ r. r) (λ r. cc) (among_append x a.labels [] ∙ ap (λ y. cond y true false) (p.targets x q));
   own = λ x. append_more x a.label_set (l ∷ []) a.labels (l ∷ []) (p.own x) (λ r. r);
 }

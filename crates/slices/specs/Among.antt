@@ -1,6 +1,6 @@
 -- Whether a number is an element of a list.
-use Rattle.std.specs.Prelude.{ℕ, Bool, true, false, cond, List, [], ◌∷◌, ◌==◌}
+use Rattle.std.specs.Prelude.{ℕ, Bool, List, ◌==◌}
+use Rattle.std.specs.List.{list_any}
 
 abbrev pub among : ℕ → List ℕ → Bool
-among n [] = false
-among n (x ∷ xs) = cond (x == n) true (among n xs)
+among n xs = list_any (λ x. x == n) xs
