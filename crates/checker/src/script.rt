@@ -35,7 +35,7 @@ impl Due<'_> {
         ensures len { length (held self.new.frames) ≤ length (held self.old.frames) + 1 }
     {
         if frame.times != 0 {
-            let _ = self.frames.push(frame);
+            self.frames.push(frame).unwrap();
         }
     }
 
@@ -69,7 +69,7 @@ fn put_all(stack: &mut Stack<u32>, values: &[u32])
     ensures room { room stack.new ≡ room stack.old }
 {
     for value in values {
-        let _ = stack.push(*value);
+        stack.push(*value).unwrap();
     }
 }
 
@@ -82,7 +82,7 @@ impl Labels<'_> {
         ensures iterations { held self.new.iterations ≡ looped frame word (held self.old.around) (held self.old.iterations) }
     {
         if word.kind == Kind::Label {
-            let _ = self.around.push(word.number);
+            self.around.push(word.number).unwrap();
         } else if word.kind.is_between(Kind::For, Kind::Do) {
             let open = self.around.as_slice();
             put_all(&mut self.iterations, &open[open.len() - frame.spot.set..]);

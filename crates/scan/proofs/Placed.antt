@@ -151,11 +151,6 @@ begins_none d [] n h = refl
 begins_none d (x ∷ xs) zero h = absurd (omega arith)
 begins_none d (x ∷ xs) (suc n) h = begins_none (declares (read_word x)) xs n (omega arith)
 
-pub begins_first : (d : Bool) (xs : List ℕ) (n : ℕ) → n ≡ 0 → n < length xs → begins_from d (map read_word xs) n ≡ begins_statement_lem d (read_word (get_or xs n 0))
-begins_first d [] n z h = absurd (omega arith)
-begins_first d (x ∷ xs) zero z h = refl
-begins_first d (x ∷ xs) (suc n) z h = absurd (omega arith)
-
 begins_suc : (d : Bool) (xs : List ℕ) (n : ℕ) → suc n < length xs →
     begins_from d (map read_word xs) (suc n) ≡ begins_statement_lem (declares (read_word (get_or xs n 0))) (read_word (get_or xs (suc n) 0))
 begins_suc d [] n h = absurd (omega arith)

@@ -1,15 +1,10 @@
 use Rattle.std.proofs.Common.{false, sym, ap, ◌∙◌, ap₂}
 use Rattle.scan.specs.Places.{declares, begins_statement_lem}
-use Rattle.scan.proofs.Placed.{begins_none, begins_first, begins_next}
+use Rattle.scan.proofs.Placed.{begins_none, begins_next}
 use Rattle.scan.proofs.begins_statement.Goals as goal
 
 pub returns-then-at-words : goal.returns-then-at-words
 returns-then-at-words c = sym (begins_none false c.args.words.now c.args.at c.if-at-words.true)
-
-pub returns-then-at-eq0 : goal.returns-then-at-eq0
-returns-then-at-eq0 c =
-    c.is_statement.ensures ∙ ap (begins_statement_lem false) c.from-word.ensures.value
-    ∙ sym (begins_first false c.args.words.now c.args.at c.if-at-eq0.true c.if-at-words.false)
 
 pub returns : goal.returns
 returns c =
