@@ -1,1 +1,2 @@
 pub mod TextLemmas
+pub mod ShownLemmas

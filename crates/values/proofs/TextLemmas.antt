@@ -1,11 +1,11 @@
 -- Bytes of numbers and texts: one step, two halves, and that equal bytes are equal numbers.
-use Rattle.std.proofs.Common.{◌≡◌, ℕ, zero, suc, ◌+◌, ◌-◌, ◌*◌, ◌/◌, ◌%◌, ◌^◌, ◌<◌, ◌≤◌, Bool, true, false, ◌&&◌, eqb, List, [], ◌∷◌, ◌++◌, length, take, drop, Some, sym, refl, ap, ◌∙◌, suc-add, one-mul, pow-suc, div-add-mod', zero-add, mul_right_comm, arith, lit<, eq-eqb, eqb-true, le-leb}
+use Rattle.std.proofs.Common.{◌≡◌, ℕ, zero, suc, ◌+◌, ◌-◌, ◌*◌, ◌/◌, ◌%◌, ◌^◌, ◌<◌, ◌≤◌, Bool, true, false, ◌&&◌, eqb, List, [], ◌∷◌, ◌++◌, length, Some, None, sym, refl, ap, ◌∙◌, suc-add, one-mul, pow-suc, div-add-mod', zero-add, mul_right_comm, length-append, arith, lit<, eq-eqb, eqb-true, le-leb}
 use native.Mathlib.Nat.{add-mul-mod_self_right, add-mul-div_right, pow-zero, pow-le-pow_right}
 use lib.Arith.{digits_div, digits_mod, digits_lt}
 use borrow.Author.Tests.{clash}
 use Rattle.std.specs.List.{slice_get}
-use Rattle.std.proofs.lemmas.Nat.{div_below, pow-add}
-use Rattle.std.proofs.lemmas.List.{take-append-drop, take_rest, length-take-le, length-drop}
+use Rattle.std.proofs.lemmas.Nat.{div_below, pow-add, shr-shr}
+use Rattle.std.proofs.lemmas.Option.{slice_get_past}
 use Rattle.values.specs.Bytes.{equal_lists}
 use Rattle.values.specs.Strict.{text, to_boolean}
 use Rattle.values.specs.declared.text.Text.{Text}
@@ -65,6 +65,13 @@ byte_high zero a b i h =
     rw (n, zero-add i)
 byte_high (suc j) a b i h = rw (suc-add j i) (ap (λ (n : ℕ). byte_at n (j + i)) (part_div j a b) ∙ byte_high j (a / byte_count) b i (below_step j a h))
 
+-- the same byte, by a shift
+pub byte_shifted : (n i : ℕ) → n / 2 ^ (8 * i) % byte_count ≡ byte_at n i
+byte_shifted n zero = search arith
+byte_shifted n (suc i) =
+    let more : 8 + 8 * i ≡ 8 * suc i = omega arith in
+    ap (λ (k : ℕ). n / 2 ^ k % byte_count) (sym more) ∙ ap (λ (m : ℕ). m % byte_count) (sym (shr-shr n 8 (8 * i))) ∙ byte_shifted (n / byte_count) i
+
 pub same_number : (k m n : ℕ) → m < byte_count ^ k → n < byte_count ^ k → bytes_of k m ≡ bytes_of k n → m ≡ n
 same_number zero m n p q e = below_zero m p ∙ sym (below_zero n q)
 same_number (suc k) m n p q e =
@@ -109,23 +116,46 @@ same_texts s t l e =
     let bytes : bytes_of s.len m ≡ bytes_of s.len n = e ∙ ap (λ (k : ℕ). bytes_of k n) (sym l) in
     same_halves s.low s.high t.low t.high s.half t.half (same_number s.len m n s.within bound bytes)
 
-pub lengths_differ : (s t : Text) → (s.len ≡ t.len → ⊥) → equal_lists (text_bytes s) (text_bytes t) ≡ false
-lengths_differ s t ne =
-    differ (text_bytes s) (text_bytes t) (λ e. ne (sym (length_bytes s.len _) ∙ ap length e ∙ length_bytes t.len _))
+same_lengths : (s t : Text) → text_bytes s ≡ text_bytes t → s.len ≡ t.len
+same_lengths s t e = sym (length_bytes s.len _) ∙ ap length e ∙ length_bytes t.len _
 
-pub lows_differ : (s t : Text) → s.len ≡ t.len → (s.low ≡ t.low → ⊥) → equal_lists (text_bytes s) (text_bytes t) ≡ false
-lows_differ s t l ne = differ (text_bytes s) (text_bytes t) (λ e. ne (same_texts s t l e).0)
+-- the derived equality of texts, field by field
+abbrev same_fields : Text → Text → Bool
+same_fields s t = eqb s.low t.low && (eqb s.high t.high && eqb s.len t.len)
 
-pub highs_decide : (s t : Text) → s.len ≡ t.len → s.low ≡ t.low → eqb s.high t.high ≡ equal_lists (text_bytes s) (text_bytes t)
-highs_decide s t l p = by_test (eqb s.high t.high) refl
+-- texts have the same bytes where they have the same fields
+pub equal_texts : (s t : Text) → equal_lists (text_bytes s) (text_bytes t) ≡ same_fields s t
+equal_texts s t = by_test (same_fields s t) refl
   where
-    by_test : (b : Bool) → eqb s.high t.high ≡ b → eqb s.high t.high ≡ equal_lists (text_bytes s) (text_bytes t)
+    by_test : (b : Bool) → same_fields s t ≡ b → equal_lists (text_bytes s) (text_bytes t) ≡ b
     by_test true h =
-        let q = eqb-true s.high t.high h in
-        let same : text_bytes s ≡ text_bytes t = rw (l, p, q) in
-        h ∙ sym (ap (equal_lists (text_bytes s)) (sym same) ∙ equal_self (text_bytes s))
-    by_test false h =
-        h ∙ sym (differ (text_bytes s) (text_bytes t) (λ e. let q = eq-eqb s.high t.high (same_texts s t l e).1 in clash (sym h ∙ q)))
+        let first = and_true (eqb s.low t.low) _ h in
+        let rest = and_true (eqb s.high t.high) (eqb s.len t.len) first.1 in
+        let low = eqb-true s.low t.low first.0 in
+        let high = eqb-true s.high t.high rest.0 in
+        let len = eqb-true s.len t.len rest.1 in
+        let same : text_bytes s ≡ text_bytes t = rw (len, low, high) in
+        ap (equal_lists (text_bytes s)) (sym same) ∙ equal_self (text_bytes s)
+    by_test false h = differ (text_bytes s) (text_bytes t) (λ e.
+        let len = same_lengths s t e in
+        let halves = same_texts s t len e in
+        let all : same_fields s t ≡ true = rw (eq-eqb s.low t.low halves.0, eq-eqb s.high t.high halves.1, eq-eqb s.len t.len len) in
+        clash (sym h ∙ all))
+
+pub length_text : (t : Text) → length (text_bytes t) ≡ t.len
+length_text t = length_bytes t.len _
+
+-- the bytes of a text, by its halves
+pub text_past : (t : Text) (i : ℕ) → t.len ≤ i → slice_get (text_bytes t) i ≡ None
+text_past t i p = let l = length_text t in slice_get_past (text_bytes t) i (omega arith)
+
+pub text_low : (t : Text) (i : ℕ) → i < t.len → i < half_length → slice_get (text_bytes t) i ≡ Some (byte_at t.low i)
+text_low t i p q = nth_bytes t.len _ i p ∙ ap (λ (b : ℕ). Some b) (byte_low half_length t.low t.high i q)
+
+pub text_high : (t : Text) (i : ℕ) → i < t.len → half_length ≤ i → slice_get (text_bytes t) i ≡ Some (byte_at t.high (i - half_length))
+text_high t i p q =
+    let place : i ≡ half_length + (i - half_length) = omega arith in
+    nth_bytes t.len _ i p ∙ ap (λ (b : ℕ). Some b) (ap (byte_at (join_halves t.low t.high)) place ∙ byte_high half_length t.low t.high (i - half_length) t.half)
 
 -- one turn of reading a number, from the last byte to the first
 pub number_fits : (n b k : ℕ) → k ≤ 7 → n < byte_count ^ k → b < byte_count → n * byte_count + b < half_count
@@ -140,39 +170,22 @@ pub allowed_length : (len : ℕ) → 1 ≤ len → len ≤ longest_text → text
 allowed_length len h k = rw (le-leb 1 len h) (le-leb len longest_text k)
 
 -- a text of more than 8 bytes, from its two halves
-module _ (xs : List ℕ) (low high : ℕ) (long : half_length ≤ length xs) where
-  first_length : length (take half_length xs) ≡ half_length
-  first_length = length-take-le half_length xs long
+module _ (xs first rest : List ℕ) (low high : ℕ) (parts : xs ≡ first ++ rest) (whole : length first ≡ half_length) where
+  total : length rest + half_length ≡ length xs
+  total = omega (arith, ap length parts, length-append first rest)
 
-  second : take (length xs - half_length) (drop half_length xs) ≡ drop half_length xs
-  second = take_rest xs half_length
-
-  second_length : length (take (length xs - half_length) (drop half_length xs)) ≡ length xs - half_length
-  second_length = ap length second ∙ length-drop half_length xs
-
-  pub halves_bytes :
-      low < half_count →
-      bytes_of (length (take half_length xs)) low ≡ take half_length xs →
-      bytes_of (length (take (length xs - half_length) (drop half_length xs))) high ≡ take (length xs - half_length) (drop half_length xs) →
-      bytes_of (length xs) (join_halves low high) ≡ xs
+  pub halves_bytes : low < half_count → bytes_of (length first) low ≡ first → bytes_of (length rest) high ≡ rest → bytes_of (length xs) (join_halves low high) ≡ xs
   halves_bytes h p q =
-      let k = length xs - half_length in
-      let all : half_length + k ≡ length xs = omega arith in
-      let first : bytes_of half_length low ≡ take half_length xs = ap (λ (n : ℕ). bytes_of n low) (sym first_length) ∙ p in
-      let rest : bytes_of k high ≡ drop half_length xs = ap (λ (n : ℕ). bytes_of n high) (sym second_length) ∙ q ∙ second in
-      let both : bytes_of (half_length + k) (join_halves low high) ≡ bytes_of half_length low ++ bytes_of k high = bytes_halves half_length k low high h in
-      ap (λ (n : ℕ). bytes_of n (join_halves low high)) (sym all) ∙ both ∙ ap (λ (l : List ℕ). l ++ bytes_of k high) first ∙ ap (λ (l : List ℕ). take half_length xs ++ l) rest ∙ take-append-drop half_length xs
+      let k = length rest in
+      let all : half_length + k ≡ length xs = omega (arith, total) in
+      let low_bytes : bytes_of half_length low ≡ first = ap (λ (n : ℕ). bytes_of n low) (sym whole) ∙ p in
+      ap (λ (n : ℕ). bytes_of n (join_halves low high)) (sym all) ∙ bytes_halves half_length k low high h
+      ∙ ap (λ (l : List ℕ). l ++ bytes_of k high) low_bytes ∙ ap (λ (l : List ℕ). first ++ l) q ∙ sym parts
 
-  pub halves_within :
-      low < half_count →
-      high < byte_count ^ length (take (length xs - half_length) (drop half_length xs)) →
-      join_halves low high < byte_count ^ length xs
+  pub halves_within : low < half_count → high < byte_count ^ length rest → join_halves low high < byte_count ^ length xs
   halves_within h p =
-      let k = length xs - half_length in
-      let all : k + half_length ≡ length xs = omega arith in
-      let above : high < byte_count ^ k = rw second_length at p in
-      let power : byte_count ^ length xs ≡ byte_count ^ k * half_count = ap (λ (n : ℕ). byte_count ^ n) (sym all) ∙ pow-add byte_count k half_length in
-      let bound : high * half_count + low < byte_count ^ k * half_count = digits_lt above h in
+      let power : byte_count ^ length xs ≡ byte_count ^ length rest * half_count = ap (λ (n : ℕ). byte_count ^ n) (sym total) ∙ pow-add byte_count (length rest) half_length in
+      let bound : high * half_count + low < byte_count ^ length rest * half_count = digits_lt p h in
       omega arith
 
 some_byte_true : (k n : ℕ) → 1 ≤ k → to_boolean (text (bytes_of k n)) ≡ true

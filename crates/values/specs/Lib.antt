@@ -1,3 +1,4 @@
 pub mod Bytes
 pub mod Strict
 pub mod SheetValues
+pub mod Shown

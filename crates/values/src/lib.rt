@@ -1,4 +1,4 @@
-// The values of a sheet: booleans, numbers and texts, with strict equality and truth.
+// The values of a sheet: booleans, numbers and texts, with strict equality, truth and how they are shown.
 
 #![tactic(auto)]
 

@@ -1,12 +1,13 @@
 // The values of a sheet, with strict equality and truth as ECMA-262 has them.
-ghost use Rattle.std.specs.Prelude.{◌≡◌};
+ghost use Rattle.std.specs.Prelude.{◌≡◌, Some};
 ghost use Rattle.values.specs.Strict.{is_strictly_equal, to_boolean};
-ghost use Rattle.values.specs.SheetValues.{boolean_value};
-ghost use Rattle.values.specs.SheetValues.{language};
+ghost use Rattle.values.specs.SheetValues.{boolean_value, language};
+ghost use Rattle.values.specs.Shown.{value_shown};
 
 use crate::text::Text;
+use std::fmt;
 
-#[derive(Clone, Copy)]
+#[derive(Clone, Copy, Debug)]
 pub enum SheetValue {
     Yes,
     No,
@@ -26,47 +27,46 @@ impl From<bool> for SheetValue {
 
 impl SheetValue {
     // Strict equality, `===`.
+    #[tactic(auto, using(crate::proofs::TextLemmas::equal_texts))]
     pub fn strictly_equals(&self, other: &SheetValue) -> bool
         ensures { result ≡ is_strictly_equal (language self.now) (language other.now) }
     {
-        match *self {
-            SheetValue::Yes => match *other {
-                SheetValue::Yes => true,
-                _ => false,
-            },
-            SheetValue::No => match *other {
-                SheetValue::No => true,
-                _ => false,
-            },
-            SheetValue::Number(a) => match *other {
-                SheetValue::Number(b) => a == b,
-                SheetValue::MinusZero => a == 0,
-                _ => false,
-            },
-            SheetValue::MinusZero => match *other {
-                SheetValue::Number(b) => b == 0,
-                SheetValue::MinusZero => true,
-                _ => false,
-            },
-            SheetValue::NotANumber => false,
-            SheetValue::Text(a) => match *other {
-                SheetValue::Text(b) => a.equals(&b),
-                _ => false,
-            },
+        match (*self, *other) {
+            (SheetValue::Yes, SheetValue::Yes)
+            | (SheetValue::No, SheetValue::No)
+            | (SheetValue::MinusZero, SheetValue::MinusZero) => true,
+            (SheetValue::Number(a), SheetValue::Number(b)) => a == b,
+            (SheetValue::Number(n), SheetValue::MinusZero)
+            | (SheetValue::MinusZero, SheetValue::Number(n)) => n == 0,
+            (SheetValue::Text(a), SheetValue::Text(b)) => a == b,
+            _ => false,
         }
     }
 
     // Whether the value counts as true in a test.
+    #[tactic(auto, using(crate::proofs::TextLemmas::text_true))]
     pub fn is_truthy(&self) -> bool
         ensures { result ≡ to_boolean (language self.now) }
     {
         match *self {
-            SheetValue::Yes => true,
-            SheetValue::No => false,
+            SheetValue::Yes | SheetValue::Text(_) => true,
             SheetValue::Number(n) => n != 0,
-            SheetValue::MinusZero => false,
-            SheetValue::NotANumber => false,
-            SheetValue::Text(_) => true,
+            SheetValue::No | SheetValue::MinusZero | SheetValue::NotANumber => false,
+        }
+    }
+}
+
+impl fmt::Display for SheetValue {
+    ghost output = { λ v. Some (value_shown v) };
+
+    fn fmt<W: fmt::Write>(&self, f: &mut fmt::Formatter<W>) -> fmt::Result {
+        match self {
+            SheetValue::Yes => f.write_str("true"),
+            SheetValue::No => f.write_str("false"),
+            SheetValue::Number(number) => write!(f, "{number}"),
+            SheetValue::MinusZero => f.write_str("-0"),
+            SheetValue::NotANumber => f.write_str("NaN"),
+            SheetValue::Text(text) => write!(f, "{text}"),
         }
     }
 }

@@ -1,43 +1,36 @@
-use Rattle.std.proofs.Common.{◌≡◌, ℕ, suc, ◌+◌, ◌-◌, ◌*◌, ◌<◌, ◌≤◌, List, ◌∷◌, length, get_or, drop, sym, ap, ◌∙◌, arith}
-use Rattle.std.proofs.lemmas.List.{drop_more, drop_all}
-use Rattle.values.specs.Bytes.{bytes_of, byte_count}
-use Rattle.values.proofs.TextLemmas.{bytes_step, number_fits, number_within}
+use Rattle.std.proofs.Common.{◌≡◌, ℕ, suc, ◌<◌, ◌≤◌, List, [], ◌∷◌, ◌++◌, length, get_or, Fits, w8, sym, ap, ◌∙◌, append_assoc, length-append, arith}
+use Rattle.std.proofs.Math.Seq.{get_or-append_seam}
+use Rattle.std.specs.List.{push}
+use Rattle.values.specs.Bytes.{bytes_of, byte_count, half_length}
+use Rattle.values.proofs.TextLemmas.{bytes_step, length_bytes, number_fits, number_within}
 use Rattle.values.proofs.text.bytes.number_of.Goals as goal
+
+-- the next byte b stands before the k bytes that are read, of which there are at most 7
+turn : (xs rest left : List ℕ) (b k n : ℕ) → rest ≡ push left b → rest ++ bytes_of k n ≡ xs → length xs ≤ half_length → ((i : ℕ) → Fits w8 (get_or xs i 0)) → (left ++ (b ∷ bytes_of k n) ≡ xs) × (b < byte_count) × (k ≤ 7)
+turn xs rest left b k n p q short fits =
+    let all : left ++ (b ∷ bytes_of k n) ≡ xs = sym (append_assoc left (b ∷ []) (bytes_of k n)) ∙ ap (λ (l : List ℕ). l ++ bytes_of k n) (sym p) ∙ q in
+    let here : get_or xs (length left) 0 ≡ b = ap (λ (l : List ℕ). get_or l (length left) 0) (sym all) ∙ get_or-append_seam left b (bytes_of k n) 0 in
+    (all, omega (arith, fits (length left)), omega (arith, ap length all, length-append left (b ∷ bytes_of k n), length_bytes k n))
 
 pub overflow_mul-number : goal.overflow_mul-number
 overflow_mul-number c =
-    let k = length c.args.bytes.now - c.loop-i.i in
-    let small : k ≤ 7 = omega arith in
-    let fits = number_fits c.loop-i.number 0 k small c.loop-i.invariant.1 (omega arith) in
+    let k = length c.loop-byte.yielded in
+    let t = turn c.args.bytes.now _ _ c.in-Some.byte.now k c.loop-byte.number c.in-Some.ensures.steps c.loop-byte.invariant.0 c.requires c.type_inv.bytes in
+    let fits = number_fits c.loop-byte.number 0 k t.2 c.loop-byte.invariant.1 (omega arith) in
     omega arith
-
-pub loop-i-init : goal.loop-i-init
-loop-i-init c =
-    let xs = c.args.bytes.now in
-    let none : length xs - length xs ≡ 0 = omega arith in
-    (ap (λ (k : ℕ). bytes_of k 0) none ∙ sym (drop_all (length xs) xs (omega arith)), rw none (omega arith))
 
 pub overflow_add-number : goal.overflow_add-number
 overflow_add-number c =
-    let k = length c.args.bytes.now - c.loop-i.i in
-    let small : k ≤ 7 = omega arith in
-    let b = get_or c.args.bytes.now (c.loop-i.i - 1) 0 in
-    let byte : b < byte_count = omega (arith, c.type_inv.bytes (c.loop-i.i - 1)) in
-    let fits = number_fits c.loop-i.number b k small c.loop-i.invariant.1 byte in
+    let k = length c.loop-byte.yielded in
+    let t = turn c.args.bytes.now _ _ c.in-Some.byte.now k c.loop-byte.number c.in-Some.ensures.steps c.loop-byte.invariant.0 c.requires c.type_inv.bytes in
+    let fits = number_fits c.loop-byte.number c.in-Some.byte.now k t.2 c.loop-byte.invariant.1 t.1 in
     omega arith
 
-pub loop-i-preserved : goal.loop-i-preserved
-loop-i-preserved c =
-    let xs = c.args.bytes.now in
-    let i = c.loop-i.i in
-    let k = length xs - i in
-    let b = get_or xs (i - 1) 0 in
-    let within : i - 1 < length xs = omega arith in
-    let longer : length xs - (i - 1) ≡ suc k = omega arith in
-    let here : i - 1 + 1 ≡ i = omega arith in
-    let fits : b < byte_count = omega (arith, c.type_inv.bytes (i - 1)) in
-    let n = c.loop-i.number * byte_count + b in
-    let left : drop (i - 1) xs ≡ b ∷ drop i xs = drop_more xs (i - 1) 0 within ∙ ap (λ (j : ℕ). b ∷ drop j xs) here in (
-      ap (λ (j : ℕ). bytes_of j n) longer ∙ bytes_step k c.loop-i.number b fits ∙ ap (λ (l : List ℕ). b ∷ l) c.loop-i.invariant.0 ∙ sym left,
-      rw longer (number_within c.loop-i.number b k c.loop-i.invariant.1 fits),
-    )
+pub loop-byte-preserved : goal.loop-byte-preserved
+loop-byte-preserved c =
+    let k = length c.loop-byte.yielded in
+    let b = c.in-Some.byte.now in
+    let n = c.loop-byte.number in
+    let t = turn c.args.bytes.now _ _ b k n c.in-Some.ensures.steps c.loop-byte.invariant.0 c.requires c.type_inv.bytes in
+    let longer : length (c.loop-byte.yielded ++ (c.in-Some.byte ∷ [])) ≡ suc k = search (arith, length-append) in
+    rw (c.from.ensures, longer) (ap (λ (l : List ℕ). c.next.new.self.iter.rest.now ++ l) (bytes_step k n b t.1) ∙ t.0, number_within n b k c.loop-byte.invariant.1 t.1)
