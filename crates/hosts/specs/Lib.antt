@@ -1,3 +1,4 @@
 pub mod Common
 pub mod RowWord
+pub mod Rows
 pub mod RowLaws

@@ -1,7 +1,8 @@
 -- The words of rows and the faults by which rows make no host, for both hosts. A word has a kind in the top
 -- 5 of its 32 bits and a number in the low 27.
-use Rattle.std.specs.Prelude.{ℕ, ◌+◌, ◌/◌, ◌%◌, Bool, cond, List, [], ◌∷◌, length, Some, None, Ok, Err, Option, Result, nat_lt}
+use Rattle.std.specs.Prelude.{ℕ, ◌+◌, ◌*◌, ◌/◌, ◌%◌, Bool, cond, ◌&&◌, List, [], ◌∷◌, length, Some, None, Ok, Err, Option, Result, nat_lt}
 use Rattle.refusals.specs.declared.host.HostFault.{HostFault}
+use Rattle.hosts.specs.declared.row_word.NoWord.{NoWord}
 use Rattle.refusals.specs.declared.host.HostFault.TheVariants.{RowCount, Row}
 
 -- what making a host answers: the fault, where there is one
@@ -18,6 +19,14 @@ kind_of word = word / number_limit
 
 abbrev pub number_of : ℕ → ℕ
 number_of word = word % number_limit
+
+-- a kind has 5 bits
+abbrev pub kind_count : ℕ
+kind_count = 32
+
+-- the word of a kind and a number, where both have room
+abbrev pub joined : ℕ → ℕ → Result ℕ NoWord
+joined kind n = cond (nat_lt kind kind_count && nat_lt n number_limit) (Ok (kind * number_limit + n)) (Err record {})
 
 -- the words of kind 1 with the numbers 0 and 1
 abbrev pub literal_0 : ℕ

@@ -1,11 +1,10 @@
 // Words of rows, for both hosts.
-ghost use Rattle.std.specs.Prelude.{◌≡◌};
-ghost use Rattle.hosts.specs.RowWord.{count_fault_lem};
+ghost use Rattle.std.specs.Prelude.{◌≡◌, ℕ, ◌^◌, ◌<◌, Bool, Ok};
+ghost use Rattle.hosts.specs.RowWord.{answer_of, count_fault_lem, first_bad, joined, kind_of, number_of};
+ghost use Rattle.hosts.specs.Rows.{ReadsRow, Tells};
 
 use refusals::host::HostFault;
-
-// A row word is a kind in the top 5 bits and a number below this limit in the low 27.
-pub const NUMBER_LIMIT: u32 = 134217728;
+use words::word::NUMBER_LIMIT;
 
 // The words of kind 1 with the numbers 0 and 1, which are rows 0 and 1 of the least hosts.
 pub const LITERAL_0: u32 = NUMBER_LIMIT;
@@ -17,20 +16,61 @@ pub static LITERALS: [u32; 2] = [LITERAL_0, LITERAL_1];
 
 pub static NO_NAMES: [u32; 0] = [];
 
+// A row word has its kind in the top 5 bits, and a number in the low 27.
+const KIND_COUNT: u32 = 32;
+
 const LEAST_ROWS: usize = 2;
 
 const MOST_ROWS: usize = 4096;
 
-// The fault of a number of rows that is not 2 to 4,096.
-pub fn count_fault(rows: &[u32]) -> Option<HostFault>
-    ensures { result ≡ count_fault_lem rows.now }
+// This word stands for no row.
+#[derive(Clone, Copy, PartialEq, Eq, Debug)]
+pub struct NoRow(pub u32);
+
+// A kind or a number has no room in a word.
+#[derive(Clone, Copy, PartialEq, Eq, Debug)]
+pub struct NoWord;
+
+// The word of a kind and a number.
+pub fn join(kind: u32, number: u32) -> Result<u32, NoWord>
+    ensures value { result ≡ joined kind number }
+    ensures reads { (word : ℕ) → result ≡ Ok word → (kind_of word ≡ kind) × (number_of word ≡ number) }
+{
+    if kind < KIND_COUNT && number < NUMBER_LIMIT {
+        Ok(kind * NUMBER_LIMIT + number)
+    } else {
+        Err(NoWord)
+    }
+}
+
+// Refuses a number of rows that is not 2 to 4,096.
+pub fn check_count(rows: &[u32]) -> Result<(), HostFault>
+    ensures { result ≡ answer_of (count_fault_lem rows.now) }
 {
     let count = rows.len();
-    if count < LEAST_ROWS {
-        Some(HostFault::RowCount(count))
-    } else if count > MOST_ROWS {
-        Some(HostFault::RowCount(count))
+    if (LEAST_ROWS..=MOST_ROWS).contains(&count) {
+        Ok(())
     } else {
-        None
+        Err(HostFault::RowCount(count))
     }
+}
+
+// Refuses the first row that may not stand, by a test of its index and its word.
+pub fn check_rows<F: Fn(usize, u32) -> bool>(rows: &[u32], may_stand: F) -> Result<(), HostFault>
+    requires { F.IsAlwaysCallable may_stand }
+    ensures { (allowed : ℕ → ℕ → Bool) → Tells rows.now (F.post may_stand) allowed → result ≡ answer_of (first_bad allowed 0 rows.now) }
+{
+    for (i, word) in rows.iter().enumerate() {
+        if !may_stand(i, *word) {
+            return Err(HostFault::Row(i));
+        }
+    }
+    Ok(())
+}
+
+// The row of an expression, where there is one.
+pub fn row_of_expression<R: TryFrom<u32, Error = NoRow>>(rows: &[u32], e: u32) -> Option<R>
+    ensures { ReadsRow R.try_from_gives rows.now e result }
+{
+    R::try_from(*rows.get(e as usize)?).ok()
 }
