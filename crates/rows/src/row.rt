@@ -1,5 +1,12 @@
 // A row of the row host, taken apart.
-#[derive(Clone, Copy)]
+ghost use Rattle.hosts.specs.Rows.{ReadsWord, WritesRow};
+ghost use Rattle.rows.specs.Rows.{row_of};
+ghost use Rattle.rows.specs.RowWords.{word_of, number_in};
+
+use hosts::row_word::{NoRow, NoWord, join};
+use words::word::NUMBER_LIMIT;
+
+#[derive(Clone, Copy, Debug, PartialEq, Eq)]
 pub enum Row {
     Literal(u32),
     NamedConstant(u32),
@@ -9,4 +16,50 @@ pub enum Row {
     NextAnswer,
     // How many things were sent so far.
     SentCount,
+}
+
+// The kinds of the words of rows.
+const LITERAL: u32 = 1;
+
+const NAMED_CONSTANT: u32 = 2;
+
+const COMMAND: u32 = 3;
+
+const NEXT_ANSWER: u32 = 4;
+
+const SENT_COUNT: u32 = 5;
+
+// Any number may stand in the word of a row that has none.
+impl TryFrom<u32> for Row {
+    type Error = NoRow;
+
+    ghost try_from_gives = { ReadsWord row_of word_of number_in };
+
+    fn try_from(word: u32) -> Result<Row, NoRow> {
+        let number = word % NUMBER_LIMIT;
+        match word / NUMBER_LIMIT {
+            LITERAL => Ok(Row::Literal(number)),
+            NAMED_CONSTANT => Ok(Row::NamedConstant(number)),
+            COMMAND => Ok(Row::Command(number)),
+            NEXT_ANSWER => Ok(Row::NextAnswer),
+            SENT_COUNT => Ok(Row::SentCount),
+            _ => Err(NoRow(word)),
+        }
+    }
+}
+
+impl TryFrom<Row> for u32 {
+    type Error = NoWord;
+
+    ghost try_from_gives = { WritesRow row_of word_of };
+
+    fn try_from(row: Row) -> Result<u32, NoWord> {
+        match row {
+            Row::Literal(number) => join(LITERAL, number),
+            Row::NamedConstant(number) => join(NAMED_CONSTANT, number),
+            Row::Command(number) => join(COMMAND, number),
+            Row::NextAnswer => join(NEXT_ANSWER, 0),
+            Row::SentCount => join(SENT_COUNT, 0),
+        }
+    }
 }
