@@ -117,7 +117,7 @@ module _ (rows : List ℕ) (entries : List SheetValue) (accepted : is_some (shee
   no_row_past : (e : ℕ) → length rows ≤ e → sheet_row_at rows e ≡ None
   no_row_past e h = ap sheet_row_of (get_or_past rows e no_row h)
 
-  pub row_fine : (e : ℕ) → Fine rows entries e (sheet_row_at rows e)
+  row_fine : (e : ℕ) → Fine rows entries e (sheet_row_at rows e)
   row_fine e = by_test (ltb e (length rows)) refl
     where
       by_test : (b : Bool) → ltb e (length rows) ≡ b → FineAt e
@@ -192,13 +192,13 @@ module _ (rows : List ℕ) (entries : List SheetValue) (accepted : is_some (shee
   literal_of_row e (Some Command) fine = refl
 
   -- what the questions look up
-  pub end_known : (e : ℕ) → None ≡ false_operand_lem (sheet_row_at rows e) → option_map language (end_value_lem rows entries (sheet_row_at rows e)) ≡ (at e).known
+  end_known : (e : ℕ) → None ≡ false_operand_lem (sheet_row_at rows e) → option_map language (end_value_lem rows entries (sheet_row_at rows e)) ≡ (at e).known
   end_known e h = value_of_row e (sheet_row_at rows e) (row_fine e) h ∙ ap (λ (x : Expression). x.known) (sym (from_row e))
 
-  pub end_acts : (e : ℕ) → None ≡ false_operand_lem (sheet_row_at rows e) → end_effects_lem rows (sheet_row_at rows e) ≡ (at e).effects
+  end_acts : (e : ℕ) → None ≡ false_operand_lem (sheet_row_at rows e) → end_effects_lem rows (sheet_row_at rows e) ≡ (at e).effects
   end_acts e h = effects_of_row e (sheet_row_at rows e) (row_fine e) h ∙ ap (λ (x : Expression). x.effects) (sym (from_row e))
 
-  pub literal_at : (e : ℕ) → is_literal_row_lem (sheet_row_at rows e) ≡ (at e).literal
+  literal_at : (e : ℕ) → is_literal_row_lem (sheet_row_at rows e) ≡ (at e).literal
   literal_at e = literal_of_row e (sheet_row_at rows e) (row_fine e) ∙ ap (λ (x : Expression). x.literal) (sym (from_row e))
 
   -- one step along a chain
@@ -213,10 +213,10 @@ module _ (rows : List ℕ) (entries : List SheetValue) (accepted : is_some (shee
   fine_operand : (e n : ℕ) (row : Option SheetRow) → row ≡ Some (IsFalse n) → Fine rows entries e row → n < e
   fine_operand e n row p fine = rw p at fine
 
-  pub operand_earlier : (e n : ℕ) → Some n ≡ false_operand_lem (sheet_row_at rows e) → n < e
+  operand_earlier : (e n : ℕ) → Some n ≡ false_operand_lem (sheet_row_at rows e) → n < e
   operand_earlier e n h = fine_operand e n (sheet_row_at rows e) (false_row (sheet_row_at rows e) n h) (row_fine e)
 
-  pub made_false : (e n : ℕ) → Some n ≡ false_operand_lem (sheet_row_at rows e) → at e ≡ false_expression (at n)
+  made_false : (e n : ℕ) → Some n ≡ false_operand_lem (sheet_row_at rows e) → at e ≡ false_expression (at n)
   made_false e n h = from_row e ∙ ap (expression_of entries at e) (false_row (sheet_row_at rows e) n h)
 
 -- truths through 'is false'
@@ -229,7 +229,7 @@ negate_twice true (Some v) = ap (λ (t : Bool). Some t) (not_not (to_boolean v))
     not_not false = refl
 negate_twice false (Some v) = refl
 
-pub follow_on : (x y z : Expression) (b : Bool) → y ≡ false_expression z → Follows x y b → Follows x z (not b)
+follow_on : (x y z : Expression) (b : Bool) → y ≡ false_expression z → Follows x y b → Follows x z (not b)
 follow_on x y z b p f = record {
   truth = f.truth ∙ ap (λ (o : Expression). option_map (negate_when b) (known_truth o)) p ∙ negate_twice b z.known;
   effects = f.effects ∙ ap (λ (o : Expression). o.effects) p;
@@ -239,7 +239,7 @@ not_negated : (o : Option Bool) → o ≡ option_map (negate_when false) o
 not_negated None = refl
 not_negated (Some t) = refl
 
-pub follow_self : (x : Expression) → Follows x x false
+follow_self : (x : Expression) → Follows x x false
 follow_self x = record { truth = not_negated (known_truth x); effects = refl }
 
 -- the truth and the value that the questions answer
@@ -249,9 +249,13 @@ differs true false = refl
 differs false true = refl
 differs false false = refl
 
-pub meaning_known : (v : Option SheetValue) → option_map sheet_meaning v ≡ option_map listed (option_map language v)
+meaning_known : (v : Option SheetValue) → option_map sheet_meaning v ≡ option_map listed (option_map language v)
 meaning_known None = refl
 meaning_known (Some v) = refl
+
+none_known : (k : Option LanguageValue) → None ≡ option_map to_boolean k → None ≡ option_map listed k
+none_known None h = refl
+none_known (Some v) h = let z : ◌≡◌ {A = ℕ} 0 1 = cc in absurd (omega arith)
 
 false_value : (t : Bool) (k : Option LanguageValue) → Some t ≡ option_map to_boolean (option_map falsehood k) → Some (listed (language (boolean_value t))) ≡ option_map listed (option_map falsehood k)
 false_value t None h = let z : ◌≡◌ {A = ℕ} 0 1 = cc in absurd (omega arith)
@@ -260,14 +264,43 @@ false_value t (Some v) h =
     ap (λ (u : LanguageValue). Some (listed u)) (boolean_language t ∙ ap boolean same)
 
 module _ (rows : List ℕ) (entries : List SheetValue) (accepted : is_some (sheet_refused rows entries) ≡ false) where
-  pub known_through : (e end : ℕ) (negated : Bool) → Follows (sheet_expression rows entries e) (sheet_expression rows entries end) negated → None ≡ false_operand_lem (sheet_row_at rows end) → (v : Option SheetValue) → v ≡ end_value_lem rows entries (sheet_row_at rows end) → option_map (negate_when negated) (option_map to_boolean (option_map language v)) ≡ known_truth (sheet_expression rows entries e)
+  known_through : (e end : ℕ) (negated : Bool) → Follows (sheet_expression rows entries e) (sheet_expression rows entries end) negated → None ≡ false_operand_lem (sheet_row_at rows end) → (v : Option SheetValue) → v ≡ end_value_lem rows entries (sheet_row_at rows end) → option_map (negate_when negated) (option_map to_boolean (option_map language v)) ≡ known_truth (sheet_expression rows entries e)
   known_through e end negated follows ends v p =
       ap (λ (u : Option SheetValue). option_map (negate_when negated) (option_map to_boolean (option_map language u))) p
       ∙ ap (λ (k : Option LanguageValue). option_map (negate_when negated) (option_map to_boolean k)) (end_known rows entries accepted end ends)
       ∙ sym follows.truth
 
-  pub value_of_false : (e n : ℕ) (t : Bool) → Some n ≡ false_operand_lem (sheet_row_at rows e) → Some t ≡ known_truth (sheet_expression rows entries e) → Some (listed (language (boolean_value t))) ≡ option_map listed (sheet_expression rows entries e).known
+  value_of_false : (e n : ℕ) (t : Bool) → Some n ≡ false_operand_lem (sheet_row_at rows e) → Some t ≡ known_truth (sheet_expression rows entries e) → Some (listed (language (boolean_value t))) ≡ option_map listed (sheet_expression rows entries e).known
   value_of_false e n t p q =
       let made = made_false rows entries accepted e n p in
       false_value t (sheet_expression rows entries n).known (q ∙ ap known_truth made)
       ∙ sym (ap (λ (x : Expression). option_map listed x.known) made)
+
+  values_of_false : (e n : ℕ) (t : Option Bool) → Some n ≡ false_operand_lem (sheet_row_at rows e) → t ≡ known_truth (sheet_expression rows entries e) → option_map sheet_meaning (option_map boolean_value t) ≡ option_map listed (sheet_expression rows entries e).known
+  values_of_false e n None p q = none_known (sheet_expression rows entries e).known q
+  values_of_false e n (Some t) p q = value_of_false e n t p q
+
+-- the effects and the literals of an accepted sheet
+pub effects_of_sheet : (rows : List ℕ) (entries : List SheetValue) (e end : ℕ) (negated : Bool) → Follows (sheet_expression rows entries e) (sheet_expression rows entries end) negated → is_some (sheet_refused rows entries) ≡ false → None ≡ false_operand_lem (sheet_row_at rows end) → (sheet_expression rows entries e).effects ≡ end_effects_lem rows (sheet_row_at rows end)
+effects_of_sheet rows entries e end negated follows accepted ends = follows.effects ∙ sym (end_acts rows entries accepted end ends)
+
+pub literal_of_sheet : (rows : List ℕ) (entries : List SheetValue) (e : ℕ) → is_some (sheet_refused rows entries) ≡ false → (sheet_expression rows entries e).literal ≡ is_literal_row_lem (sheet_row_at rows e)
+literal_of_sheet rows entries e accepted = sym (literal_at rows entries accepted e)
+
+-- the truth of an expression, from the value at the end of its chain
+pub truth_of_sheet : (rows : List ℕ) (entries : List SheetValue) (e end : ℕ) (negated : Bool) → Follows (sheet_expression rows entries e) (sheet_expression rows entries end) negated → is_some (sheet_refused rows entries) ≡ false → None ≡ false_operand_lem (sheet_row_at rows end) → option_map to_boolean (sheet_expression rows entries e).known ≡ option_map (negate_when negated) (option_map to_boolean (option_map language (end_value_lem rows entries (sheet_row_at rows end))))
+truth_of_sheet rows entries e end negated follows accepted ends = sym (known_through rows entries accepted e end negated follows ends _ refl)
+
+-- the value of an expression: of an 'is false' row, its truth
+pub value_of_false_row : (rows : List ℕ) (entries : List SheetValue) (e n : ℕ) (t : Option Bool) → Some n ≡ false_operand_lem (sheet_row_at rows e) → t ≡ option_map to_boolean (sheet_expression rows entries e).known → is_some (sheet_refused rows entries) ≡ false → option_map listed (sheet_expression rows entries e).known ≡ option_map sheet_meaning (option_map boolean_value t)
+value_of_false_row rows entries e n t p q accepted = sym (values_of_false rows entries accepted e n t p q)
+
+pub value_of_end : (rows : List ℕ) (entries : List SheetValue) (e : ℕ) → None ≡ false_operand_lem (sheet_row_at rows e) → is_some (sheet_refused rows entries) ≡ false → option_map listed (sheet_expression rows entries e).known ≡ option_map sheet_meaning (end_value_lem rows entries (sheet_row_at rows e))
+value_of_end rows entries e ends accepted = sym (meaning_known _ ∙ ap (option_map listed) (end_known rows entries accepted e ends))
+
+-- a step along a chain: the operand is an earlier row
+pub earlier_operand : (rows : List ℕ) (entries : List SheetValue) (end operand : ℕ) → Some operand ≡ false_operand_lem (sheet_row_at rows end) → is_some (sheet_refused rows entries) ≡ false → operand < end
+earlier_operand rows entries end operand p accepted = operand_earlier rows entries accepted end operand p
+
+pub follow_operand : (rows : List ℕ) (entries : List SheetValue) (e end operand : ℕ) (negated : Bool) → Follows (sheet_expression rows entries e) (sheet_expression rows entries end) negated → Some operand ≡ false_operand_lem (sheet_row_at rows end) → is_some (sheet_refused rows entries) ≡ false → Follows (sheet_expression rows entries e) (sheet_expression rows entries operand) (not negated)
+follow_operand rows entries e end operand negated follows p accepted = follow_on _ _ _ negated (made_false rows entries accepted end operand p) follows

@@ -1,4 +1,5 @@
 pub mod SheetRows
+pub mod SheetWords
 pub mod SheetModel
 pub mod SheetAnswers
 pub mod SheetLaws

@@ -3,28 +3,25 @@
 #![tactic(auto)]
 
 ghost use Rattle.std.specs.Prelude.{◌≡◌, true, false, [], ◌∷◌, pos, is_some, None};
-ghost use Rattle.std.specs.Option.{option_map};
 ghost use Rattle.values.specs.declared.sheet_value.SheetValue.TheVariants.{Number};
-ghost use Rattle.hosts.specs.RowWord.{answer_of, first_bad, literal_0, literal_1};
-ghost use Rattle.sheet.specs.SheetRows.{sheet_row_of, sheet_row_at, operand_allowed, kind_allowed, literal_of_whole, sheet_row_allowed, sheet_refused};
-ghost use Rattle.values.specs.SheetValues.{sheet_meaning, sheet_equal, MeaningsOfValues};
+ghost use Rattle.hosts.specs.RowWord.{answer_of, literal_0, literal_1};
+ghost use Rattle.sheet.specs.SheetRows.{sheet_row_at, sheet_refused};
+ghost use Rattle.values.specs.SheetValues.{sheet_meaning, MeaningsOfValues};
 ghost use Rattle.sheet.specs.SheetModel.{sheet_expression, sheet_model, EachFromItsRow};
 ghost use Rattle.sheet.specs.SheetAnswers.{false_operand_lem, Follows};
 ghost use Rattle.sheet.specs.SheetLaws.{sheet_lawful};
 
+use crate::lists::Lists;
 use crate::literals::Literals;
-use crate::sheet_row::{
-    SheetRow, decode, end_effects, end_value, entry_at, false_operand, is_literal_row,
-    row_of_expression,
-};
 use host::Host;
-use hosts::row_word::{LITERALS, NO_NAMES, count_fault};
+use hosts::row_word::{LITERALS, NO_NAMES};
 use refusals::host::HostFault;
 use slices::contains;
 use values::sheet_value::SheetValue;
 
+mod lists;
 pub mod literals;
-mod sheet_row;
+pub mod sheet_row;
 
 #[derive(Drop)]
 pub struct Sheet<'a> {
@@ -39,83 +36,6 @@ pub struct Sheet<'a> {
 struct Chain {
     end: u32,
     negated: bool,
-}
-
-// Whether an operand of the 'are equal' row at index i is an earlier row of kind 1, 2 or 5.
-fn is_operand(rows: &[u32], i: usize, operand: u32) -> bool
-    ensures { result ≡ operand_allowed rows.now i operand }
-{
-    if operand as usize >= i {
-        return false;
-    }
-    match row_of_expression(rows, operand) {
-        Some(SheetRow::Literal(_)) => true,
-        Some(SheetRow::Named(_)) => true,
-        Some(SheetRow::IsFalse(_)) => false,
-        Some(SheetRow::AreEqual(_, _)) => false,
-        Some(SheetRow::Command) => true,
-        None => false,
-    }
-}
-
-// Whether a row other than 0 and 1 may stand at index i.
-fn is_row(rows: &[u32], entries: &[SheetValue], i: usize, word: u32) -> bool
-    ensures { result ≡ kind_allowed rows.now entries.now i (sheet_row_of word) }
-{
-    match decode(word) {
-        Some(SheetRow::Literal(n)) => (n as usize) < entries.len(),
-        Some(SheetRow::Named(n)) => (n as usize) < entries.len(),
-        Some(SheetRow::IsFalse(n)) => (n as usize) < i,
-        Some(SheetRow::AreEqual(r, s)) => is_operand(rows, i, r) && is_operand(rows, i, s),
-        Some(SheetRow::Command) => true,
-        None => false,
-    }
-}
-
-// Whether a row is a literal whose entry is this whole number.
-fn is_literal_of(entries: &[SheetValue], word: u32, whole: i32) -> bool
-    ensures { result ≡ literal_of_whole entries.now whole (sheet_row_of word) }
-{
-    match decode(word) {
-        Some(SheetRow::Literal(n)) => match entry_at(entries, n) {
-            Some(SheetValue::Number(number)) => number == whole,
-            _ => false,
-        },
-        _ => false,
-    }
-}
-
-fn is_allowed(rows: &[u32], entries: &[SheetValue], i: usize, word: u32) -> bool
-    ensures { result ≡ sheet_row_allowed rows.now entries.now i word }
-{
-    match i {
-        0 => is_literal_of(entries, word, 0),
-        1 => is_literal_of(entries, word, 1),
-        _ => is_row(rows, entries, i, word),
-    }
-}
-
-fn first_bad_row(rows: &[u32], entries: &[SheetValue]) -> Option<HostFault>
-    ensures { result ≡ first_bad (sheet_row_allowed rows.now entries.now) 0 rows.now }
-{
-    for (i, word) in rows.iter().enumerate() {
-        if !is_allowed(rows, entries, i, *word) {
-            return Some(HostFault::Row(i));
-        }
-    }
-    None
-}
-
-// Why these rows and entries make no sheet. Where they make one, each expression is what its row says.
-fn fault(rows: &[u32], entries: &[SheetValue]) -> Option<HostFault>
-    ensures answer { result ≡ sheet_refused rows.now entries.now }
-    ensures meaning { is_some (sheet_refused rows.now entries.now) ≡ false → EachFromItsRow rows.now entries.now }
-    ensures values { MeaningsOfValues }
-{
-    match count_fault(rows) {
-        Some(fault) => Some(fault),
-        None => first_bad_row(rows, entries),
-    }
 }
 
 impl<'a> Sheet<'a> {
@@ -145,76 +65,40 @@ impl<'a> Sheet<'a> {
         ensures meaning { is_some (sheet_refused rows.now entries.now) ≡ false → EachFromItsRow rows.now entries.now }
         ensures values { MeaningsOfValues }
     {
-        match fault(rows, entries) {
-            Some(fault) => Err(fault),
-            None => {
-                *self = Sheet {
-                    rows,
-                    entries,
-                    names,
-                };
-                Ok(())
-            }
+        Lists { rows, entries }.check()?;
+        *self = Sheet {
+            rows,
+            entries,
+            names,
+        };
+        Ok(())
+    }
+
+    // The rows and the entries.
+    fn lists(&self) -> Lists<'a>
+        ensures rows { result.rows.now ≡ self.now.rows.now }
+        ensures entries { result.entries.now ≡ self.now.entries.now }
+    {
+        Lists {
+            rows: self.rows,
+            entries: self.entries,
         }
     }
 
     // Follows 'is false' rows from an expression to the first row that is none: each operand is an earlier row.
+    #[tactic(auto, using(crate::proofs::SheetLemmas::earlier_operand))]
     fn chain(&self, e: u32) -> Chain
         ensures follows { Follows (sheet_expression self.now.rows.now self.now.entries.now e) (sheet_expression self.now.rows.now self.now.entries.now result.end) result.negated }
         ensures ends { None ≡ false_operand_lem (sheet_row_at self.now.rows.now result.end) }
     {
         let mut end = e;
         let mut negated = false;
-        while let Some(operand) = false_operand(self.rows, end) {
+        while let Some(operand) = self.lists().false_operand(end) {
             end = operand;
             negated = !negated;
         }
         Chain { end, negated }
     }
-
-    // The truth of an expression, where it is known: that of the row at the end of its chain.
-    fn known_truth(&self, e: u32) -> Option<bool>
-        ensures { result ≡ (sheet_model self.now.rows.now self.now.entries.now self.now.names.now).truth? e }
-    {
-        let chain = self.chain(e);
-        match end_value(self.rows, self.entries, chain.end) {
-            Some(value) => Some(value.is_truthy() != chain.negated),
-            None => None,
-        }
-    }
-
-    // The value of an expression, where it is known: of an 'is false' row, its truth.
-    fn known_value(&self, e: u32) -> Option<SheetValue>
-        ensures { option_map sheet_meaning result ≡ (sheet_model self.now.rows.now self.now.entries.now self.now.names.now).value? e }
-    {
-        match false_operand(self.rows, e) {
-            Some(_) => match self.known_truth(e) {
-                Some(truth) => Some(SheetValue::from(truth)),
-                None => None,
-            },
-            None => end_value(self.rows, self.entries, e),
-        }
-    }
-
-    fn has_effects(&self, e: u32) -> bool
-        ensures { result ≡ (sheet_model self.now.rows.now self.now.entries.now self.now.names.now).effects? e }
-    {
-        let chain = self.chain(e);
-        end_effects(self.rows, chain.end)
-    }
-
-    fn is_literal(&self, e: u32) -> bool
-        ensures { result ≡ (sheet_model self.now.rows.now self.now.entries.now self.now.names.now).literal? e }
-    {
-        is_literal_row(self.rows, e)
-    }
-}
-
-// Whether two values are strictly equal, by what they mean.
-fn are_same(a: &SheetValue, b: &SheetValue) -> bool
-    ensures { result ≡ sheet_equal (sheet_meaning a.now) (sheet_meaning b.now) }
-{
-    a.strictly_equals(b)
 }
 
 impl Host for Sheet<'_> {
@@ -230,24 +114,35 @@ impl Host for Sheet<'_> {
         self.rows.len() as u32
     }
 
+    // That of the row at the end of the chain.
+    #[tactic(auto, using(crate::proofs::SheetLemmas::truth_of_sheet, crate::proofs::SheetLemmas::differs))]
     fn truth(&self, e: u32) -> Option<bool> {
-        self.known_truth(e)
+        let chain = self.chain(e);
+        let value = self.lists().end_value(chain.end)?;
+        Some(value.is_truthy() != chain.negated)
     }
 
+    // Of an 'is false' row, its truth.
+    #[tactic(auto, using(crate::proofs::SheetLemmas::value_of_false_row, crate::proofs::SheetLemmas::value_of_end))]
     fn value(&self, e: u32) -> Option<SheetValue> {
-        self.known_value(e)
+        match self.lists().false_operand(e) {
+            Some(_) => self.truth(e).map(SheetValue::from),
+            None => self.lists().end_value(e),
+        }
     }
 
+    #[tactic(auto, using(crate::proofs::SheetLemmas::effects_of_sheet))]
     fn effects(&self, e: u32) -> bool {
-        self.has_effects(e)
+        self.lists().end_effects(self.chain(e).end)
     }
 
+    #[tactic(auto, using(crate::proofs::SheetLemmas::literal_of_sheet))]
     fn literal(&self, e: u32) -> bool {
-        self.is_literal(e)
+        self.lists().is_literal(e)
     }
 
     fn same(&self, a: &SheetValue, b: &SheetValue) -> bool {
-        are_same(a, b)
+        a.strictly_equals(b)
     }
 
     fn granted(&self, name: u32) -> bool {

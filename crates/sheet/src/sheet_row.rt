@@ -1,13 +1,12 @@
-// Rows of a sheet, taken apart, and what is looked up in one row.
-ghost use Rattle.std.specs.Prelude.{◌≡◌};
-ghost use Rattle.std.specs.List.{slice_get};
-ghost use Rattle.sheet.specs.SheetRows.{sheet_row_of, sheet_row_at};
-ghost use Rattle.sheet.specs.SheetAnswers.{false_operand_lem, entry_of, compared, end_value_lem, is_command_lem, end_effects_lem, is_literal_row_lem};
+// A row of a sheet, taken apart.
+ghost use Rattle.hosts.specs.Rows.{ReadsWord, WritesRow};
+ghost use Rattle.sheet.specs.SheetRows.{sheet_row_of};
+ghost use Rattle.sheet.specs.SheetWords.{sheet_word_of, sheet_number_in};
 
-use hosts::row_word::NUMBER_LIMIT;
-use values::sheet_value::SheetValue;
+use hosts::row_word::{NoRow, NoWord, join};
+use words::word::NUMBER_LIMIT;
 
-#[derive(Clone, Copy)]
+#[derive(Clone, Copy, Debug, PartialEq, Eq)]
 pub enum SheetRow {
     // The entry at this index, as a literal.
     Literal(u32),
@@ -21,141 +20,56 @@ pub enum SheetRow {
     Command,
 }
 
+// The kinds of the words of rows.
+const LITERAL: u32 = 1;
+
+const NAMED: u32 = 2;
+
+const IS_FALSE: u32 = 3;
+
+const ARE_EQUAL: u32 = 4;
+
+const COMMAND: u32 = 5;
+
 // The number of an 'are equal' row is this many times the first operand, and the second.
 const OPERAND_LIMIT: u32 = 8192;
 
-pub(crate) fn decode(word: u32) -> Option<SheetRow>
-    ensures { result ≡ sheet_row_of word }
-{
-    let number = word % NUMBER_LIMIT;
-    match word / NUMBER_LIMIT {
-        1 => Some(SheetRow::Literal(number)),
-        2 => Some(SheetRow::Named(number)),
-        3 => Some(SheetRow::IsFalse(number)),
-        4 => Some(SheetRow::AreEqual(number / OPERAND_LIMIT, number % OPERAND_LIMIT)),
-        5 => Some(SheetRow::Command),
-        _ => None,
+const FIRST_OPERAND_LIMIT: u32 = NUMBER_LIMIT / OPERAND_LIMIT;
+
+// Any number may stand in the word of a command.
+impl TryFrom<u32> for SheetRow {
+    type Error = NoRow;
+
+    ghost try_from_gives = { ReadsWord sheet_row_of sheet_word_of sheet_number_in };
+
+    fn try_from(word: u32) -> Result<SheetRow, NoRow> {
+        let number = word % NUMBER_LIMIT;
+        match word / NUMBER_LIMIT {
+            LITERAL => Ok(SheetRow::Literal(number)),
+            NAMED => Ok(SheetRow::Named(number)),
+            IS_FALSE => Ok(SheetRow::IsFalse(number)),
+            ARE_EQUAL => Ok(SheetRow::AreEqual(number / OPERAND_LIMIT, number % OPERAND_LIMIT)),
+            COMMAND => Ok(SheetRow::Command),
+            _ => Err(NoRow(word)),
+        }
     }
 }
 
-// The row of an expression, where there is one.
-pub(crate) fn row_of_expression(rows: &[u32], e: u32) -> Option<SheetRow>
-    ensures { result ≡ sheet_row_at rows.now e }
-{
-    let i = e as usize;
-    if i < rows.len() {
-        decode(rows[i])
-    } else {
-        None
-    }
-}
+impl TryFrom<SheetRow> for u32 {
+    type Error = NoWord;
 
-// The entry at an index, where there is one.
-pub(crate) fn entry_at(entries: &[SheetValue], n: u32) -> Option<SheetValue>
-    ensures { result ≡ slice_get entries.now n }
-{
-    let i = n as usize;
-    if i < entries.len() {
-        Some(entries[i])
-    } else {
-        None
-    }
-}
+    ghost try_from_gives = { WritesRow sheet_row_of sheet_word_of };
 
-// The operand of an 'is false' row.
-pub(crate) fn false_operand(rows: &[u32], e: u32) -> Option<u32>
-    ensures { result ≡ false_operand_lem (sheet_row_at rows.now e) }
-{
-    match row_of_expression(rows, e) {
-        Some(SheetRow::IsFalse(n)) => Some(n),
-        Some(SheetRow::Literal(_)) => None,
-        Some(SheetRow::Named(_)) => None,
-        Some(SheetRow::AreEqual(_, _)) => None,
-        Some(SheetRow::Command) => None,
-        None => None,
-    }
-}
-
-// The entry of a row that is one.
-pub(crate) fn entry_of_row(rows: &[u32], entries: &[SheetValue], e: u32) -> Option<SheetValue>
-    ensures { result ≡ entry_of entries.now (sheet_row_at rows.now e) }
-{
-    match row_of_expression(rows, e) {
-        Some(SheetRow::Literal(n)) => entry_at(entries, n),
-        Some(SheetRow::Named(n)) => entry_at(entries, n),
-        Some(SheetRow::IsFalse(_)) => None,
-        Some(SheetRow::AreEqual(_, _)) => None,
-        Some(SheetRow::Command) => None,
-        None => None,
-    }
-}
-
-// Whether two known values are strictly equal, where both are known.
-pub(crate) fn compared(a: Option<SheetValue>, b: Option<SheetValue>) -> Option<SheetValue>
-    ensures { result ≡ compared a b }
-{
-    match a {
-        Some(x) => match b {
-            Some(y) => Some(SheetValue::from(x.strictly_equals(&y))),
-            None => None,
-        },
-        None => None,
-    }
-}
-
-// The known value of a row that is no 'is false' row.
-pub(crate) fn end_value(rows: &[u32], entries: &[SheetValue], e: u32) -> Option<SheetValue>
-    ensures { result ≡ end_value_lem rows.now entries.now (sheet_row_at rows.now e) }
-{
-    match row_of_expression(rows, e) {
-        Some(SheetRow::Literal(n)) => entry_at(entries, n),
-        Some(SheetRow::Named(n)) => entry_at(entries, n),
-        Some(SheetRow::IsFalse(_)) => None,
-        Some(SheetRow::AreEqual(r, s)) => compared(
-            entry_of_row(rows, entries, r),
-            entry_of_row(rows, entries, s),
-        ),
-        Some(SheetRow::Command) => None,
-        None => None,
-    }
-}
-
-pub(crate) fn is_command(rows: &[u32], e: u32) -> bool
-    ensures { result ≡ is_command_lem (sheet_row_at rows.now e) }
-{
-    match row_of_expression(rows, e) {
-        Some(SheetRow::Literal(_)) => false,
-        Some(SheetRow::Named(_)) => false,
-        Some(SheetRow::IsFalse(_)) => false,
-        Some(SheetRow::AreEqual(_, _)) => false,
-        Some(SheetRow::Command) => true,
-        None => false,
-    }
-}
-
-// Whether a row that is no 'is false' row has effects.
-pub(crate) fn end_effects(rows: &[u32], e: u32) -> bool
-    ensures { result ≡ end_effects_lem rows.now (sheet_row_at rows.now e) }
-{
-    match row_of_expression(rows, e) {
-        Some(SheetRow::Literal(_)) => false,
-        Some(SheetRow::Named(_)) => false,
-        Some(SheetRow::IsFalse(_)) => true,
-        Some(SheetRow::AreEqual(r, s)) => is_command(rows, r) || is_command(rows, s),
-        Some(SheetRow::Command) => true,
-        None => true,
-    }
-}
-
-pub(crate) fn is_literal_row(rows: &[u32], e: u32) -> bool
-    ensures { result ≡ is_literal_row_lem (sheet_row_at rows.now e) }
-{
-    match row_of_expression(rows, e) {
-        Some(SheetRow::Literal(_)) => true,
-        Some(SheetRow::Named(_)) => false,
-        Some(SheetRow::IsFalse(_)) => false,
-        Some(SheetRow::AreEqual(_, _)) => false,
-        Some(SheetRow::Command) => false,
-        None => false,
+    fn try_from(row: SheetRow) -> Result<u32, NoWord> {
+        match row {
+            SheetRow::Literal(n) => join(LITERAL, n),
+            SheetRow::Named(n) => join(NAMED, n),
+            SheetRow::IsFalse(n) => join(IS_FALSE, n),
+            SheetRow::AreEqual(r, s) if r < FIRST_OPERAND_LIMIT && s < OPERAND_LIMIT => {
+                join(ARE_EQUAL, r * OPERAND_LIMIT + s)
+            }
+            SheetRow::AreEqual(_, _) => Err(NoWord),
+            SheetRow::Command => join(COMMAND, 0),
+        }
     }
 }
