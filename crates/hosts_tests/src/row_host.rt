@@ -1,46 +1,53 @@
 // The row host.
-use crate::word;
+use crate::{COUNTS, word};
 use host::Host;
 use refusals::host::HostFault;
-use refusals::refusal::Layer;
+use refusals::refusal::{Layer, Refusal};
 use rows::Rows;
 
 // A row of each kind after the literals 0 and 1.
-pub(crate) const SAMPLE: [u32; 7] = [
+const SAMPLE: [u32; 7] = [
     134217728, 134217729, 134217732, 268435461, 402653190, 536870919, 671088648,
 ];
 
+// The least row host, and in its place the host of these rows and granted names.
+fn make<'a>(rows: &'a [u32], names: &'a [u32]) -> (Result<(), HostFault>, Rows<'a>) {
+    let mut host = Rows::least();
+    let made = host.make(rows, names);
+    (made, host)
+}
+
+// Each number of rows, in place of the least host and of the host before.
 #[test]
 fn row_counts(rt: HostRuntime) {
-    let mut rows = [402653184u32; 4097];
+    let mut rows = [word(3, 0); 4097];
     rows[0] = word(1, 0);
     rows[1] = word(1, 1);
-    let mut host = Rows::least();
-    assert_eq!(rt; host.make(&rows[0..1], &[]), Err(HostFault::RowCount(1)));
-    assert_eq!(rt; host.make(&rows[0..0], &[]), Err(HostFault::RowCount(0)));
-    assert_eq!(rt;
-        host.make(&rows[0..4097], &[]),
-        Err(HostFault::RowCount(4097))
-    );
-    assert_eq!(rt; host.count(), 2);
-    assert_eq!(rt; host.make(&rows[0..2], &[]), Ok(()));
-    assert_eq!(rt; host.count(), 2);
-    assert_eq!(rt; host.make(&rows[0..4096], &[]), Ok(()));
-    assert_eq!(rt; host.count(), 4096);
-    assert_eq!(rt; host.value(4095), Some(0));
-    assert_eq!(rt; host.value(4096), None);
+    let mut kept = Rows::least();
+    for (length, answer, count) in COUNTS {
+        let tried = rows.get(..length).unwrap_or(&[]);
+        let (made, fresh) = make(tried, &[]);
+        assert_eq!(rt; made, answer);
+        assert_eq!(rt; kept.make(tried, &[]), answer);
+        for host in [&fresh, &kept] {
+            assert_eq!(rt; host.count(), count);
+            assert!(rt; host.value(count.saturating_sub(1)).is_some());
+            assert_eq!(rt; host.value(count), None);
+        }
+    }
+    assert_eq!(rt; kept.value(4095), Some(0));
 }
 
 // Kinds 0 and 6 to 31 are refused at their row, and the host found before is still there.
 #[test]
 fn bad_kinds(rt: HostRuntime) {
-    for kind in 0..32u32 {
+    for kind in 0..32 {
         let mut bad = SAMPLE;
         bad[4] = word(kind, 3);
-        let mut host = Rows::least();
-        assert_eq!(rt; host.make(&SAMPLE, &[8]), Ok(()));
+        let (made, mut host) = make(&SAMPLE, &[8]);
+        assert_eq!(rt; made, Ok(()));
         let made = host.make(&bad, &[]);
-        if kind >= 1 && kind <= 5 {
+        if (1..=5).contains(&kind) {
             assert_eq!(rt; made, Ok(()));
             assert!(rt; !host.granted(8));
         } else {
@@ -51,71 +58,75 @@ fn bad_kinds(rt: HostRuntime) {
     }
 }
 
+// Rows 0 and 1 other than the literals 0 and 1, and the index of the bad one.
+const BAD_FIRST: [(u32, u32, u32, u32, usize); 8] = [
+    (1, 1, 1, 1, 0),
+    (2, 0, 1, 1, 0),
+    (0, 0, 1, 1, 0),
+    (3, 0, 1, 1, 0),
+    (1, 0, 1, 0, 1),
+    (1, 0, 1, 2, 1),
+    (1, 0, 2, 1, 1),
+    (1, 0, 6, 1, 1),
+];
+
 #[test]
 fn first_rows(rt: HostRuntime) {
-    for bad in [word(1, 1), word(2, 0), word(0, 0), word(3, 0)] {
-        let rows = [bad, word(1, 1), 0];
-        let mut host = Rows::least();
-        assert_eq!(rt; host.make(&rows, &[]), Err(HostFault::Row(0)));
-    }
-    for bad in [word(1, 0), word(1, 2), word(2, 1), word(6, 1)] {
-        let rows = [word(1, 0), bad, 0];
-        let mut host = Rows::least();
-        assert_eq!(rt; host.make(&rows, &[]), Err(HostFault::Row(1)));
+    for (kind_0, number_0, kind_1, number_1, bad) in BAD_FIRST {
+        let rows = [word(kind_0, number_0), word(kind_1, number_1), 0];
+        let (made, host) = make(&rows, &[]);
+        assert_eq!(rt; made, Err(HostFault::Row(bad)));
         assert_eq!(rt; host.count(), 2);
     }
-    let refusal = HostFault::Row(1).refusal();
-    assert_eq!(rt; refusal.number, 13);
-    assert_eq!(rt; refusal.layer, Layer::Host);
-    assert_eq!(rt; refusal.place, 1);
-    assert_eq!(rt; HostFault::RowCount(4097).refusal().place, 4097);
+}
+
+#[test]
+fn refusals(rt: HostRuntime) {
+    for (fault, place) in [(HostFault::Row(1), 1), (HostFault::RowCount(4097), 4097)] {
+        let refusal = Refusal {
+            number: 13,
+            layer: Layer::Host,
+            place,
+        };
+        assert_eq!(rt; fault.refusal(), refusal);
+    }
 }
 
 #[test]
 fn questions(rt: HostRuntime) {
-    let mut host = Rows::least();
-    assert_eq!(rt; host.make(&SAMPLE, &[]), Ok(()));
-    // value, effects, literal
+    let (made, host) = make(&SAMPLE, &[]);
+    assert_eq!(rt; made, Ok(()));
+    // value, truth, effects, literal
     let table = [
-        (Some(0), false, true),
-        (Some(1), false, true),
-        (Some(4), false, true),
-        (Some(5), false, false),
-        (Some(6), true, false),
-        (None, true, false),
-        (None, false, false),
-        (None, true, false),
+        (Some(0), Some(false), false, true),
+        (Some(1), Some(true), false, true),
+        (Some(4), Some(true), false, true),
+        (Some(5), Some(true), false, false),
+        (Some(6), Some(true), true, false),
+        (None, None, true, false),
+        (None, None, false, false),
+        (None, None, true, false),
     ];
-    let mut e = 0u32;
-    for (value, effects, literal) in table {
-        assert_eq!(rt; host.value(e), value);
-        assert_eq!(rt; host.truth(e).is_some(), value.is_some());
-        assert_eq!(rt; host.effects(e), effects);
-        assert_eq!(rt; host.literal(e), literal);
-        e = e.wrapping_add(1);
+    for (e, expected) in (0..).zip(table) {
+        let answers = (
+            host.value(e),
+            host.truth(e),
+            host.effects(e),
+            host.literal(e),
+        );
+        assert_eq!(rt; answers, expected);
     }
-    assert_eq!(rt; host.truth(0), Some(false));
-    assert_eq!(rt; host.truth(4), Some(true));
-    assert!(rt; host.same(&4, &4));
-    assert!(rt; !host.same(&4, &5));
-}
-
-// The row host with these rows and granted names.
-fn host_of<'a>(rows: &'a [u32], names: &'a [u32]) -> Rows<'a> {
-    let mut host = Rows::least();
-    let _ = host.make(rows, names);
-    host
+    assert!(rt; host.same(&4, &4) && !host.same(&4, &5));
 }
 
 #[test]
 fn granted_names(rt: HostRuntime) {
-    let mut names = [7u32; 5000];
-    names[4999] = 4294967295;
-    let rows = SAMPLE;
-    let host = host_of(&rows, &names);
+    let mut names = [7; 5000];
+    names[4999] = u32::MAX;
+    let (_, host) = make(&SAMPLE, &names);
     assert!(rt; host.granted(7));
-    assert!(rt; host.granted(4294967295));
+    assert!(rt; host.granted(u32::MAX));
     assert!(rt; !host.granted(8));
-    let none = host_of(&rows, &names[0..0]);
+    let (_, none) = make(&SAMPLE, &[]);
     assert!(rt; !none.granted(7));
 }

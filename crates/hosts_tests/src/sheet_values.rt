@@ -7,15 +7,16 @@ const LETTERS: [u8; 17] = *b"abcdefghijklmnopq";
 
 #[test]
 fn text_lengths(rt: HostRuntime) -> Result<(), Fail> {
-    assert!(rt; Text::new(&LETTERS[0..0]).is_none());
+    assert!(rt; Text::new(&[]).is_none());
     assert!(rt; Text::new(&LETTERS).is_none());
-    for len in 1..17usize {
-        let Some(text) = Text::new(&LETTERS[0..len]) else {
+    for len in 1..=16 {
+        let bytes = &LETTERS[..len];
+        let Some(text) = Text::new(bytes) else {
             return Err(Fail::new("1 to 16 bytes make a text"));
         };
         assert_eq!(rt; text.len(), len);
-        for i in 0..len {
-            assert_eq!(rt; text.byte(i), Some(LETTERS[i]));
+        for (i, byte) in bytes.iter().enumerate() {
+            assert_eq!(rt; text.byte(i), Some(*byte));
         }
         assert_eq!(rt; text.byte(len), None);
     }
@@ -24,27 +25,24 @@ fn text_lengths(rt: HostRuntime) -> Result<(), Fail> {
 
 // Whether the texts of two lists of bytes are strictly equal, if both are texts.
 fn are_equal(a: &[u8], b: &[u8]) -> Option<bool> {
-    match Text::new(a) {
-        Some(x) => match Text::new(b) {
-            Some(y) => Some(SheetValue::Text(x).strictly_equals(&SheetValue::Text(y))),
-            None => None,
-        },
-        None => None,
-    }
+    let a = SheetValue::Text(Text::new(a)?);
+    let b = SheetValue::Text(Text::new(b)?);
+    Some(a.strictly_equals(&b))
 }
 
 // Texts that differ in the last byte, or in length by a byte 0, are not equal.
 #[test]
 fn text_equality(rt: HostRuntime) {
-    let bytes = [97u8; 16];
-    for len in 1..17usize {
-        let mut other = [97u8; 16];
+    let bytes = [b'a'; 16];
+    for len in 1..=16 {
+        let mut other = bytes;
         other[len - 1] = 0;
-        assert_eq!(rt; are_equal(&bytes[0..len], &bytes[0..len]), Some(true));
-        assert_eq!(rt; are_equal(&bytes[0..len], &other[0..len]), Some(false));
+        let (text, changed) = (&bytes[..len], &other[..len]);
+        assert_eq!(rt; are_equal(text, text), Some(true));
+        assert_eq!(rt; are_equal(text, changed), Some(false));
         if len > 1 {
-            assert_eq!(rt; are_equal(&other[0..len], &other[0..len - 1]), Some(false));
-            assert_eq!(rt; are_equal(&bytes[0..len], &bytes[0..len - 1]), Some(false));
+            assert_eq!(rt; are_equal(changed, &other[..len - 1]), Some(false));
+            assert_eq!(rt; are_equal(text, &bytes[..len - 1]), Some(false));
         }
     }
 }
@@ -55,23 +53,23 @@ fn strict_equality(rt: HostRuntime) -> Result<(), Fail> {
     let Some(one) = Text::new(b"1") else {
         return Err(Fail::new("a byte makes a text"));
     };
-    let values = [
-        SheetValue::Yes,
-        SheetValue::No,
-        SheetValue::Number(0),
-        SheetValue::MinusZero,
-        SheetValue::NotANumber,
-        SheetValue::Number(1),
-        SheetValue::Number(-2147483648),
-        SheetValue::Text(one),
+    // each value and its truth
+    let table = [
+        (SheetValue::Yes, true),
+        (SheetValue::No, false),
+        (SheetValue::Number(0), false),
+        (SheetValue::MinusZero, false),
+        (SheetValue::NotANumber, false),
+        (SheetValue::Number(1), true),
+        (SheetValue::Number(i32::MIN), true),
+        (SheetValue::Text(one), true),
     ];
-    let truths = [true, false, false, false, false, true, true, true];
-    for i in 0..8usize {
-        assert_eq!(rt; values[i].is_truthy(), truths[i]);
-        for j in 0..8usize {
+    for (i, (value, truth)) in table.iter().enumerate() {
+        assert_eq!(rt; value.is_truthy(), *truth);
+        for (j, (other, _)) in table.iter().enumerate() {
             let zeros = (i == 2 || i == 3) && (j == 2 || j == 3);
             let expected = (i == j && i != 4) || zeros;
-            assert_eq!(rt; values[i].strictly_equals(&values[j]), expected);
+            assert_eq!(rt; value.strictly_equals(other), expected);
         }
     }
     Ok(())

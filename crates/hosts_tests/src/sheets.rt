@@ -1,5 +1,5 @@
 // The sheet host.
-use crate::word;
+use crate::{COUNTS, word};
 use host::Host;
 use refusals::host::HostFault;
 use sheet::Sheet;
@@ -7,7 +7,7 @@ use sheet::literals::Literals;
 use std::test::Fail;
 use values::sheet_value::SheetValue;
 
-pub(crate) const ENTRIES: [SheetValue; 4] = [
+const ENTRIES: [SheetValue; 4] = [
     SheetValue::Number(0),
     SheetValue::Number(1),
     SheetValue::MinusZero,
@@ -15,7 +15,7 @@ pub(crate) const ENTRIES: [SheetValue; 4] = [
 ];
 
 // The least sheet, and in its place the sheet of these rows, entries and granted names.
-pub(crate) fn make<'a>(
+fn make<'a>(
     literals: &'a Literals,
     rows: &'a [u32],
     entries: &'a [SheetValue],
@@ -39,24 +39,18 @@ fn answer<'a>(
 #[test]
 fn row_counts(rt: HostRuntime) {
     let literals = Literals::new();
-    let entries = ENTRIES;
     let mut rows = [word(5, 9); 4097];
     rows[0] = word(1, 0);
     rows[1] = word(1, 1);
-    let (made, host) = make(&literals, &rows[0..1], &entries, &[]);
-    assert_eq!(rt; made, Err(HostFault::RowCount(1)));
-    assert_eq!(rt; host.count(), 2);
-    let (made, host) = make(&literals, &rows[0..2], &entries, &[]);
-    assert_eq!(rt; made, Ok(()));
-    assert_eq!(rt; host.count(), 2);
-    let (made, host) = make(&literals, &rows[0..4096], &entries, &[]);
-    assert_eq!(rt; made, Ok(()));
-    assert_eq!(rt; host.count(), 4096);
-    assert!(rt; host.effects(4095));
-    assert!(rt; host.value(4095).is_none());
-    let (made, host) = make(&literals, &rows, &entries, &[]);
-    assert_eq!(rt; made, Err(HostFault::RowCount(4097)));
-    assert_eq!(rt; host.count(), 2);
+    for (length, answer, count) in COUNTS {
+        let tried = rows.get(..length).unwrap_or(&[]);
+        let (made, host) = make(&literals, tried, &ENTRIES, &[]);
+        assert_eq!(rt; made, answer);
+        assert_eq!(rt; host.count(), count);
+        let last = count.saturating_sub(1);
+        assert_eq!(rt; host.effects(last), count > 2);
+        assert_eq!(rt; host.value(last).is_none(), count > 2);
+    }
 }
 
 // Makes a sheet that grants 8, and then tries other rows in its place.
@@ -76,7 +70,6 @@ fn make_after<'a>(
 #[test]
 fn bad_rows(rt: HostRuntime) {
     let literals = Literals::new();
-    let entries = ENTRIES;
     let good = [word(1, 0), word(1, 1), word(2, 3)];
     let bad = [
         word(0, 0),
@@ -91,7 +84,7 @@ fn bad_rows(rt: HostRuntime) {
     ];
     for word in bad {
         let rows = [good[0], good[1], word];
-        let (made, host) = make_after(&literals, &good, &rows, &entries, &[8]);
+        let (made, host) = make_after(&literals, &good, &rows, &ENTRIES, &[8]);
         assert_eq!(rt; made, Err(HostFault::Row(2)));
         assert_eq!(rt; host.count(), 3);
         assert_eq!(rt; host.truth(2), Some(false));
@@ -103,15 +96,14 @@ fn bad_rows(rt: HostRuntime) {
 #[test]
 fn bad_kinds(rt: HostRuntime) {
     let literals = Literals::new();
-    let entries = ENTRIES;
-    for kind in 0..32u32 {
+    for kind in 0..32 {
         let rows = [word(1, 0), word(1, 1), word(kind, 0)];
-        let expected = if kind >= 1 && kind <= 5 {
+        let expected = if (1..=5).contains(&kind) {
             Ok(())
         } else {
             Err(HostFault::Row(2))
         };
-        assert_eq!(rt; answer(&literals, &rows, &entries), expected);
+        assert_eq!(rt; answer(&literals, &rows, &ENTRIES), expected);
     }
 }
 
@@ -119,31 +111,23 @@ fn bad_kinds(rt: HostRuntime) {
 #[test]
 fn operands(rt: HostRuntime) {
     let literals = Literals::new();
-    let entries = ENTRIES;
-    for other in 0..5u32 {
-        let second = [
-            word(1, 0),
-            word(1, 1),
-            word(5, 77),
-            word(3, 1),
-            word(4, 8192 * 2 + 1),
-            word(4, 8192 + other),
-        ];
-        let first = [
-            word(1, 0),
-            word(1, 1),
-            word(5, 77),
-            word(3, 1),
-            word(4, 8192 * 2 + 1),
-            word(4, 8192 * other + 1),
-        ];
+    for other in 0..5 {
         let expected = if other < 3 {
             Ok(())
         } else {
             Err(HostFault::Row(5))
         };
-        assert_eq!(rt; answer(&literals, &second, &entries), expected);
-        assert_eq!(rt; answer(&literals, &first, &entries), expected);
+        for last in [word(4, 8192 + other), word(4, 8192 * other + 1)] {
+            let rows = [
+                word(1, 0),
+                word(1, 1),
+                word(5, 77),
+                word(3, 1),
+                word(4, 8192 * 2 + 1),
+                last,
+            ];
+            assert_eq!(rt; answer(&literals, &rows, &ENTRIES), expected);
+        }
     }
 }
 
@@ -151,7 +135,6 @@ fn operands(rt: HostRuntime) {
 #[test]
 fn first_rows(rt: HostRuntime) {
     let literals = Literals::new();
-    let entries = ENTRIES;
     for bad in [
         word(1, 1),
         word(1, 2),
@@ -161,11 +144,11 @@ fn first_rows(rt: HostRuntime) {
         word(5, 0),
     ] {
         let rows = [bad, word(1, 1)];
-        assert_eq!(rt; answer(&literals, &rows, &entries), Err(HostFault::Row(0)));
+        assert_eq!(rt; answer(&literals, &rows, &ENTRIES), Err(HostFault::Row(0)));
     }
     for bad in [word(1, 0), word(1, 2), word(2, 1), word(3, 0), word(0, 1)] {
         let rows = [word(1, 0), bad];
-        assert_eq!(rt; answer(&literals, &rows, &entries), Err(HostFault::Row(1)));
+        assert_eq!(rt; answer(&literals, &rows, &ENTRIES), Err(HostFault::Row(1)));
     }
 }
 
@@ -173,7 +156,6 @@ fn first_rows(rt: HostRuntime) {
 #[test]
 fn questions(rt: HostRuntime) {
     let literals = Literals::new();
-    let entries = ENTRIES;
     let rows = [
         word(1, 0),
         word(1, 1),
@@ -185,54 +167,55 @@ fn questions(rt: HostRuntime) {
         word(4, 8192 * 3 + 2),
         word(3, 6),
     ];
-    let (made, host) = make(&literals, &rows, &entries, &[]);
+    let (made, host) = make(&literals, &rows, &ENTRIES, &[]);
     assert_eq!(rt; made, Ok(()));
-    // truth, effects, literal
+    // truth, whether a value is known, effects, literal
     let table = [
-        (Some(false), false, true),
-        (Some(true), false, true),
-        (Some(false), false, false),
-        (None, true, false),
-        (Some(true), false, false),
-        (None, true, false),
-        (Some(true), false, false),
-        (None, true, false),
-        (Some(false), false, false),
-        (None, true, false),
+        (Some(false), true, false, true),
+        (Some(true), true, false, true),
+        (Some(false), true, false, false),
+        (None, false, true, false),
+        (Some(true), true, false, false),
+        (None, false, true, false),
+        (Some(true), true, false, false),
+        (None, false, true, false),
+        (Some(false), true, false, false),
+        (None, false, true, false),
     ];
-    let mut e = 0u32;
-    for (truth, effects, literal) in table {
-        assert_eq!(rt; host.truth(e), truth);
-        assert_eq!(rt; host.value(e).is_some(), truth.is_some());
-        assert_eq!(rt; host.effects(e), effects);
-        assert_eq!(rt; host.literal(e), literal);
-        e = e.wrapping_add(1);
+    for (e, expected) in (0..).zip(table) {
+        let answers = (
+            host.truth(e),
+            host.value(e).is_some(),
+            host.effects(e),
+            host.literal(e),
+        );
+        assert_eq!(rt; answers, expected);
     }
-    assert!(rt; has_value(&host, 2, SheetValue::Number(0)));
-    assert!(rt; has_value(&host, 6, SheetValue::Yes));
-    assert!(rt; has_value(&host, 8, SheetValue::No));
+    for (e, value) in [
+        (2, SheetValue::Number(0)),
+        (6, SheetValue::Yes),
+        (8, SheetValue::No),
+    ] {
+        assert!(rt; has_value(&host, e, value));
+    }
 }
 
 // Whether an expression has a known value that is strictly equal to this one.
-pub(crate) fn has_value(host: &Sheet<'_>, e: u32, value: SheetValue) -> bool {
-    match host.value(e) {
-        Some(known) => host.same(&known, &value),
-        None => false,
-    }
+fn has_value(host: &Sheet<'_>, e: u32, value: SheetValue) -> bool {
+    host.value(e).is_some_and(|known| host.same(&known, &value))
 }
 
 // 4,094 'is false' rows, each about the one before it.
 #[test]
 fn deep_chain(rt: HostRuntime) -> Result<(), Fail> {
     let literals = Literals::new();
-    let entries = ENTRIES;
-    let mut rows = [0u32; 4096];
+    let mut rows = [0; 4096];
     rows[0] = word(1, 0);
     rows[1] = word(1, 1);
-    for i in 2..4096usize {
-        rows[i] = word(3, i as u32 - 1);
+    for (row, operand) in rows.iter_mut().skip(2).zip(1..) {
+        *row = word(3, operand);
     }
-    let (made, host) = make(&literals, &rows, &entries, &[]);
+    let (made, host) = make(&literals, &rows, &ENTRIES, &[]);
     assert_eq!(rt; made, Ok(()));
     assert_eq!(rt; host.truth(4094), Some(false));
     assert_eq!(rt; host.truth(4095), Some(true));
@@ -244,13 +227,12 @@ fn deep_chain(rt: HostRuntime) -> Result<(), Fail> {
 #[test]
 fn granted_names(rt: HostRuntime) {
     let literals = Literals::new();
-    let entries = ENTRIES;
-    let mut names = [3u32; 5000];
+    let mut names = [3; 5000];
     names[4999] = 9;
     let rows = [word(1, 0), word(1, 1)];
-    let (_, none) = make(&literals, &rows, &entries, &names[0..0]);
+    let (_, none) = make(&literals, &rows, &ENTRIES, &[]);
     assert!(rt; !none.granted(3));
-    let (made, host) = make(&literals, &rows, &entries, &names);
+    let (made, host) = make(&literals, &rows, &ENTRIES, &names);
     assert_eq!(rt; made, Ok(()));
     assert!(rt; host.granted(9));
     assert!(rt; !host.granted(8));
