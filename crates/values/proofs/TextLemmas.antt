@@ -5,6 +5,7 @@ use lib.Arith.{digits_div, digits_mod, digits_lt}
 use borrow.Author.Tests.{clash}
 use Rattle.std.specs.List.{slice_get}
 use Rattle.std.proofs.lemmas.Nat.{div_below, pow-add, shr-shr}
+use Rattle.std.proofs.lemmas.Bool.{and_parts}
 use Rattle.std.proofs.lemmas.Option.{slice_get_past}
 use Rattle.values.specs.Bytes.{equal_lists}
 use Rattle.values.specs.Strict.{text, to_boolean}
@@ -84,16 +85,12 @@ pub equal_self : (xs : List ℕ) → equal_lists xs xs ≡ true
 equal_self [] = refl
 equal_self (x ∷ xs) = rw (eq-eqb x x refl) (equal_self xs)
 
-and_true : (a b : Bool) → (a && b) ≡ true → (a ≡ true) × (b ≡ true)
-and_true true b h = (refl, h)
-and_true false b h = absurd (clash h)
-
 pub equal_is : (xs ys : List ℕ) → equal_lists xs ys ≡ true → xs ≡ ys
 equal_is [] [] h = refl
 equal_is [] (y ∷ ys) h = absurd (clash h)
 equal_is (x ∷ xs) [] h = absurd (clash h)
 equal_is (x ∷ xs) (y ∷ ys) h =
-    let p = and_true (eqb x y) (equal_lists xs ys) h in
+    let p = and_parts (eqb x y) (equal_lists xs ys) h in
     let a = eqb-true x y p.0 in
     let b = equal_is xs ys p.1 in
     cc
@@ -129,8 +126,8 @@ equal_texts s t = by_test (same_fields s t) refl
   where
     by_test : (b : Bool) → same_fields s t ≡ b → equal_lists (text_bytes s) (text_bytes t) ≡ b
     by_test true h =
-        let first = and_true (eqb s.low t.low) _ h in
-        let rest = and_true (eqb s.high t.high) (eqb s.len t.len) first.1 in
+        let first = and_parts (eqb s.low t.low) _ h in
+        let rest = and_parts (eqb s.high t.high) (eqb s.len t.len) first.1 in
         let low = eqb-true s.low t.low first.0 in
         let high = eqb-true s.high t.high rest.0 in
         let len = eqb-true s.len t.len rest.1 in

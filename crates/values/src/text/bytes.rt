@@ -43,6 +43,7 @@ fn byte_at(number: u64, place: usize) -> u8
 
 impl Text {
     // The text of these bytes, of which there are 1 to 16.
+    #[tactic(auto, using(crate::proofs::TextLemmas::allowed_length, crate::proofs::TextLemmas::halves_bytes, crate::proofs::TextLemmas::halves_within))]
     pub fn new(bytes: &[u8]) -> Option<Text>
         ensures { option_map text_bytes result ≡ (if text_length (length bytes.now) then Some bytes.now else None) }
     {
