@@ -88,7 +88,7 @@ fn refusals(rt: HostRuntime) {
             layer: Layer::Host,
             place,
         };
-        assert_eq!(rt; fault.refusal(), refusal);
+        assert_eq!(rt; Refusal::from(fault), refusal);
     }
 }
 

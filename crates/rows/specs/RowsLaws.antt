@@ -12,7 +12,7 @@ use Rattle.hosts.specs.RowLaws.{accepted_rows, each_allowed}
 use Rattle.rows.specs.Rows.{row_of, row_at, row_allowed, rows_refused, number_value, number_truth, rows_truthy, known_number_lem, row_effects, row_literal, evaluate_row, rows_model}
 
 none_is_some : {A B : Type 0} → (x : A) → ◌≡◌ {A = Option A} None (Some x) → B
-none_is_some x p = let z : ◌≡◌ {A = ℕ} 0 1 = cc in absurd (omega arith)
+none_is_some x p = absurd cc
 
 given_is : (n k : ℕ) (w : World) (v : Value) (u : World) → ◌≡◌ {A = Option ℕ} (Some n) (Some k) → gives (number_value n) w ≡ gives v u → v ≡ number_value k
 given_is n k w v u p q = let a : number_value n ≡ v = cc in let b : n ≡ k = cc in sym a ∙ ap number_value b

@@ -1,12 +1,13 @@
 -- Accepted sheets: each expression is made from its row, and what the questions look up is what the
 -- model has.
-use Rattle.std.proofs.Common.{◌≡◌, ℕ, ◌+◌, ◌<◌, ◌≤◌, Bool, true, false, cond, not, ◌&&◌, ◌||◌, eqb, ltb, List, length, get_or, ℤ, pos, is_some, Some, None, Option, sym, refl, ap, ◌∙◌, arith, ltb-false, ltb-true}
+use Rattle.std.proofs.Common.{◌≡◌, ℕ, ◌+◌, ◌<◌, ◌≤◌, Bool, true, false, cond, not, ◌||◌, eqb, ltb, List, length, get_or, ℤ, pos, is_some, Some, None, Option, sym, refl, ap, ◌∙◌, arith, ltb-false, ltb-true}
 use mathlib.Core.Bool.{beq}
 use borrow.Author.Tests.{clash}
 use Rattle.std.specs.List.{slice_get}
 use Rattle.std.specs.Option.{option_map}
 use Rattle.std.proofs.lemmas.List.{get_or_past}
 use Rattle.std.proofs.lemmas.Option.{slice_get-get_or}
+use Rattle.std.proofs.lemmas.Bool.{and_parts}
 use Rattle.sheet.specs.declared.sheet_row.SheetRow.{SheetRow}
 use Rattle.sheet.specs.declared.sheet_row.SheetRow.TheVariants.{Literal, Named, IsFalse, AreEqual, Command}
 use Rattle.values.specs.declared.sheet_value.SheetValue.{SheetValue}
@@ -29,10 +30,6 @@ Fine rows entries e (Some (IsFalse n)) = n < e
 Fine rows entries e (Some (AreEqual r s)) = (r < e) × (is_comparable (sheet_row_at rows r) ≡ true) × (s < e) × (is_comparable (sheet_row_at rows s) ≡ true)
 Fine rows entries e (Some Command) = Unit {0}
 
-both_true : (a b : Bool) → (a && b) ≡ true → (a ≡ true) × (b ≡ true)
-both_true true b h = (refl, h)
-both_true false b h = absurd (clash h)
-
 entry_there : (entries : List SheetValue) (n : ℕ) → ltb n (length entries) ≡ true → is_some (slice_get entries n) ≡ true
 entry_there entries n h = ap is_some (slice_get-get_or entries n Yes (ltb-true n (length entries) h))
 
@@ -42,9 +39,9 @@ kind_fine rows entries e (Some (Literal n)) h = entry_there entries n h
 kind_fine rows entries e (Some (Named n)) h = entry_there entries n h
 kind_fine rows entries e (Some (IsFalse n)) h = ltb-true n e h
 kind_fine rows entries e (Some (AreEqual r s)) h =
-    let each = both_true (operand_allowed rows e r) (operand_allowed rows e s) h in
-    let first = both_true (ltb r e) _ each.0 in
-    let second = both_true (ltb s e) _ each.1 in
+    let each = and_parts (operand_allowed rows e r) (operand_allowed rows e s) h in
+    let first = and_parts (ltb r e) _ each.0 in
+    let second = and_parts (ltb s e) _ each.1 in
     (ltb-true r e first.0, first.1, ltb-true s e second.0, second.1)
 kind_fine rows entries e (Some Command) h = tt
 
@@ -112,7 +109,7 @@ module _ (rows : List ℕ) (entries : List SheetValue) (accepted : is_some (shee
 
   fine_past : (e : ℕ) (row : Option SheetRow) → row ≡ None → Fine rows entries e row
   fine_past e None h = tt
-  fine_past e (Some row) h = let z : ◌≡◌ {A = ℕ} 0 1 = cc in absurd (omega arith)
+  fine_past e (Some row) h = absurd cc
 
   no_row_past : (e : ℕ) → length rows ≤ e → sheet_row_at rows e ≡ None
   no_row_past e h = ap sheet_row_of (get_or_past rows e no_row h)
@@ -167,7 +164,7 @@ module _ (rows : List ℕ) (entries : List SheetValue) (accepted : is_some (shee
   value_of_row e None fine h = refl
   value_of_row e (Some (Literal n)) fine h = entry_known true (slice_get entries n)
   value_of_row e (Some (Named n)) fine h = entry_known false (slice_get entries n)
-  value_of_row e (Some (IsFalse n)) fine h = let z : ◌≡◌ {A = ℕ} 0 1 = cc in absurd (omega arith)
+  value_of_row e (Some (IsFalse n)) fine h = absurd cc
   value_of_row e (Some (AreEqual r s)) fine h =
       let a = entry_of entries (sheet_row_at rows r) in
       let b = entry_of entries (sheet_row_at rows s) in
@@ -178,7 +175,7 @@ module _ (rows : List ℕ) (entries : List SheetValue) (accepted : is_some (shee
   effects_of_row e None fine h = refl
   effects_of_row e (Some (Literal n)) fine h = entry_effects true (slice_get entries n) fine
   effects_of_row e (Some (Named n)) fine h = entry_effects false (slice_get entries n) fine
-  effects_of_row e (Some (IsFalse n)) fine h = let z : ◌≡◌ {A = ℕ} 0 1 = cc in absurd (omega arith)
+  effects_of_row e (Some (IsFalse n)) fine h = absurd cc
   effects_of_row e (Some (AreEqual r s)) fine h =
       ap (λ (b : Bool). b || is_command_lem (sheet_row_at rows s)) (effects_at r fine.1) ∙ ap (λ (b : Bool). (at r).effects || b) (effects_at s fine.3)
   effects_of_row e (Some Command) fine h = refl
@@ -203,12 +200,12 @@ module _ (rows : List ℕ) (entries : List SheetValue) (accepted : is_some (shee
 
   -- one step along a chain
   false_row : (row : Option SheetRow) (n : ℕ) → Some n ≡ false_operand_lem row → row ≡ Some (IsFalse n)
-  false_row None n h = let z : ◌≡◌ {A = ℕ} 0 1 = cc in absurd (omega arith)
-  false_row (Some (Literal m)) n h = let z : ◌≡◌ {A = ℕ} 0 1 = cc in absurd (omega arith)
-  false_row (Some (Named m)) n h = let z : ◌≡◌ {A = ℕ} 0 1 = cc in absurd (omega arith)
+  false_row None n h = absurd cc
+  false_row (Some (Literal m)) n h = absurd cc
+  false_row (Some (Named m)) n h = absurd cc
   false_row (Some (IsFalse m)) n h = let e : m ≡ n = cc in ap (λ (k : ℕ). Some (IsFalse k)) e
-  false_row (Some (AreEqual r s)) n h = let z : ◌≡◌ {A = ℕ} 0 1 = cc in absurd (omega arith)
-  false_row (Some Command) n h = let z : ◌≡◌ {A = ℕ} 0 1 = cc in absurd (omega arith)
+  false_row (Some (AreEqual r s)) n h = absurd cc
+  false_row (Some Command) n h = absurd cc
 
   fine_operand : (e n : ℕ) (row : Option SheetRow) → row ≡ Some (IsFalse n) → Fine rows entries e row → n < e
   fine_operand e n row p fine = rw p at fine
@@ -255,10 +252,10 @@ meaning_known (Some v) = refl
 
 none_known : (k : Option LanguageValue) → None ≡ option_map to_boolean k → None ≡ option_map listed k
 none_known None h = refl
-none_known (Some v) h = let z : ◌≡◌ {A = ℕ} 0 1 = cc in absurd (omega arith)
+none_known (Some v) h = absurd cc
 
 false_value : (t : Bool) (k : Option LanguageValue) → Some t ≡ option_map to_boolean (option_map falsehood k) → Some (listed (language (boolean_value t))) ≡ option_map listed (option_map falsehood k)
-false_value t None h = let z : ◌≡◌ {A = ℕ} 0 1 = cc in absurd (omega arith)
+false_value t None h = absurd cc
 false_value t (Some v) h =
     let same : t ≡ not (to_boolean v) = cc in
     ap (λ (u : LanguageValue). Some (listed u)) (boolean_language t ∙ ap boolean same)

@@ -43,13 +43,13 @@ record Sound (x : Expression) : Type 0 where
   literal : x.literal ≡ true → x.effects ≡ false
 
 none_is_some : {A B : Type 0} → (x : A) → ◌≡◌ {A = Option A} None (Some x) → B
-none_is_some x p = let z : ◌≡◌ {A = ℕ} 0 1 = cc in absurd (omega arith)
+none_is_some x p = absurd cc
 
 none_gives : {B : Type 0} → (v : LanguageValue) (w : World) → ◌≡◌ {A = Outcome LanguageValue} no_return (gives v w) → B
-none_gives v w p = let z : ◌≡◌ {A = ℕ} 0 1 = cc in absurd (omega arith)
+none_gives v w p = absurd cc
 
 throw_gives : {B : Type 0} → (t : Value) (s : World) (v : LanguageValue) (w : World) → ◌≡◌ {A = Outcome LanguageValue} (throws t s) (gives v w) → B
-throw_gives t s v w p = let z : ◌≡◌ {A = ℕ} 0 1 = cc in absurd (omega arith)
+throw_gives t s v w p = absurd cc
 
 unknown_sound : Sound unknown_expression
 unknown_sound = record {
@@ -239,8 +239,8 @@ unknown_past rows entries names e h =
 -- what an evaluation gives as a list comes from a language value
 listed_gives : (o : Outcome LanguageValue) (v : Value) (u : World) → map_outcome listed o ≡ gives v u → (x : LanguageValue) × (o ≡ gives x u) × (v ≡ listed x)
 listed_gives (gives x w) v u p = let a : listed x ≡ v = cc in let b : w ≡ u = cc in (x, ap (gives x) b, sym a)
-listed_gives (throws t w) v u p = let z : ◌≡◌ {A = ℕ} 0 1 = cc in absurd (omega arith)
-listed_gives no_return v u p = let z : ◌≡◌ {A = ℕ} 0 1 = cc in absurd (omega arith)
+listed_gives (throws t w) v u p = absurd cc
+listed_gives no_return v u p = absurd cc
 
 truth_given : (x : Expression) → Sound x → (b : Bool) → option_map to_boolean x.known ≡ Some b → (w : World) (v : Value) (u : World) → map_outcome listed (x.evaluation w) ≡ gives v u → sheet_truthy v ≡ b
 truth_given x s b p w v u q =
