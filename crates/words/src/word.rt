@@ -1,5 +1,5 @@
 // Script words: the top 5 bits are a kind, the low 27 a number.
-ghost use Rattle.std.specs.Prelude.{◌≡◌, ℕ, true, Some, Ok};
+ghost use Rattle.std.specs.Prelude.{◌≡◌, ℕ, true, Some, Ok, Decides};
 ghost use Rattle.words.specs.Words.{kind_of, code, from_to, is_listed, read_word, write_word, written};
 
 // What a word is. Unlisted stands for the kinds 0 and 28 to 31, which no script has.
@@ -105,6 +105,13 @@ impl From<u32> for Kind {
 }
 
 impl Kind {
+    // Whether two kinds are one: the derived `==` decides it.
+    pub fn is(self, other: Kind) -> bool
+        ensures { Decides result (self ≡ other) }
+    {
+        self == other
+    }
+
     // Whether the kind's number lies between those of two others. Of a derived order the check did not prove it.
     pub fn is_between(self, low: Kind, high: Kind) -> bool
         ensures { result ≡ from_to low high self }
