@@ -2,7 +2,7 @@
 
 #![tactic(auto)]
 
-ghost use Rattle.std.specs.Prelude.{◌≡◌, true, false, [], ◌∷◌, is_some, Some, None};
+ghost use Rattle.std.specs.Prelude.{◌≡◌, true, false, [], ◌∷◌, is_some, Some, None, MatchResult};
 ghost use Rattle.hosts.specs.RowWord.{answer_of, literal_0, literal_1};
 ghost use Rattle.rows.specs.Rows.{row_at, rows_refused, row_allowed, rows_model, number_value, known_number_lem};
 ghost use Rattle.rows.specs.RowsLaws.{rows_lawful};
@@ -56,15 +56,24 @@ impl<'a> Rows<'a> {
         }
     }
 
+    // The host of these rows and granted names.
+    pub fn new(rows: &'a [u32], names: &'a [u32]) -> Result<Rows<'a>, HostFault>
+        ensures { MatchResult result
+            (λ h. (rows_refused rows.now ≡ None) × (h.rows.now ≡ rows.now) × (h.names.now ≡ names.now))
+            (λ f. rows_refused rows.now ≡ Some f) }
+    {
+        check_count(rows)?;
+        check_rows(rows, is_allowed)?;
+        Ok(Rows { rows, names })
+    }
+
     // Makes the host of these rows and granted names in place of this one, which a refusal leaves as it was.
     pub fn make(&mut self, rows: &'a [u32], names: &'a [u32]) -> Result<(), HostFault>
         ensures answer { result ≡ answer_of (rows_refused rows.now) }
         ensures made { is_some (rows_refused rows.now) ≡ false → (self.new.rows.now ≡ rows.now) × (self.new.names.now ≡ names.now) }
         ensures left { is_some (rows_refused rows.now) ≡ true → self.new ≡ self.old }
     {
-        check_count(rows)?;
-        check_rows(rows, is_allowed)?;
-        *self = Rows { rows, names };
+        *self = Rows::new(rows, names)?;
         Ok(())
     }
 }

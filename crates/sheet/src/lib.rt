@@ -2,7 +2,7 @@
 
 #![tactic(auto)]
 
-ghost use Rattle.std.specs.Prelude.{◌≡◌, true, false, [], ◌∷◌, pos, is_some, None};
+ghost use Rattle.std.specs.Prelude.{◌≡◌, true, false, [], ◌∷◌, pos, is_some, Some, None, IsOk, MatchResult};
 ghost use Rattle.values.specs.declared.sheet_value.SheetValue.TheVariants.{Number};
 ghost use Rattle.hosts.specs.RowWord.{answer_of, literal_0, literal_1};
 ghost use Rattle.sheet.specs.SheetRows.{sheet_row_at, sheet_refused};
@@ -52,6 +52,26 @@ impl<'a> Sheet<'a> {
         }
     }
 
+    // The host of these rows, entries and granted names.
+    pub fn new(
+        rows: &'a [u32],
+        entries: &'a [SheetValue],
+        names: &'a [u32],
+    ) -> Result<Sheet<'a>, HostFault>
+        ensures made { MatchResult result
+            (λ h. (sheet_refused rows.now entries.now ≡ None) × (h.rows.now ≡ rows.now) × (h.entries.now ≡ entries.now) × (h.names.now ≡ names.now))
+            (λ f. sheet_refused rows.now entries.now ≡ Some f) }
+        ensures meaning { IsOk result → EachFromItsRow rows.now entries.now }
+        ensures values { MeaningsOfValues }
+    {
+        Lists { rows, entries }.check()?;
+        Ok(Sheet {
+            rows,
+            entries,
+            names,
+        })
+    }
+
     // Makes the host of these rows, entries and granted names in place of this one, which a refusal leaves as it was.
     pub fn make(
         &mut self,
@@ -65,12 +85,7 @@ impl<'a> Sheet<'a> {
         ensures meaning { is_some (sheet_refused rows.now entries.now) ≡ false → EachFromItsRow rows.now entries.now }
         ensures values { MeaningsOfValues }
     {
-        Lists { rows, entries }.check()?;
-        *self = Sheet {
-            rows,
-            entries,
-            names,
-        };
+        *self = Sheet::new(rows, entries, names)?;
         Ok(())
     }
 
