@@ -3,7 +3,8 @@ ghost use Rattle.std.specs.Prelude.{◌≤◌, length};
 
 mod methods;
 
-// Its first `len` elements are what the stack holds, the last of them on top.
+// Its first `len` elements are what the stack holds, the last of them on top. A lent slice and a length, no Vec: below
+// the program nothing has a heap.
 #[derive(Drop)]
 pub struct Stack<'a, T> {
     items: &'a mut [T],

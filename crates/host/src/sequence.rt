@@ -1,5 +1,6 @@
 // The questions about an expression as a script holds it: one word of kind Expression, or the word of a
-// Sequence and its parts. Proved once for every host.
+// Sequence and its parts. Proved once for every host. A host and words, and no struct of the two: callers have them
+// apart, and would make one for each question.
 ghost use Rattle.std.specs.Prelude.{◌≡◌};
 ghost use Rattle.std.specs.Option.{option_map};
 ghost use Rattle.host.specs.Sequence.{numbers, part_numbers, last_number, sole_number, truth_of, value_of, effects_of, literal_of, SequenceLaws};

@@ -15,7 +15,7 @@ pub enum HostFault {
     Row(usize),
 }
 
-// The number of every refusal to make a host.
+// The number of every refusal to make a host: the caller is told a number, and this names it.
 const HOST_REFUSAL: u32 = 13;
 
 // The refusal that the caller is given: the place is the number of rows, or the index of the row.

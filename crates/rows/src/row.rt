@@ -18,7 +18,7 @@ pub enum Row {
     SentCount,
 }
 
-// The kinds of the words of rows.
+// The kinds of the words of rows: a word holds a number, and these name it.
 const LITERAL: u32 = 1;
 
 const NAMED_CONSTANT: u32 = 2;
