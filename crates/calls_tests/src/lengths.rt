@@ -1,133 +1,125 @@
 // Refusals 1 to 5 and 10: what is lent, and how many words there are.
-use crate::lent::*;
-use refusals::refusal::Layer;
+use crate::loads::*;
+use refusals::refusal::{Layer, Refusal};
+use std::process::Abort;
 use std::test::Fail;
 use words::word::Kind;
 
-#[test]
-fn used_length(rt: HostRuntime) -> Result<(), Fail> {
-    let script = [word(Kind::Body, 1), word(Kind::Empty, 0)];
-    refused(
-        &rt,
-        load_lent(&rt, rt.alloc(), &script, 0, 8, 0)?,
-        1,
-        Layer::Space,
-        0,
-    )?;
-    refused(
-        &rt,
-        load_lent(&rt, rt.alloc(), &script, 3, 12, 0)?,
-        1,
-        Layer::Space,
-        3,
-    )?;
-    refused(
-        &rt,
-        load_lent(&rt, rt.alloc(), &script, 3, 0, 17)?,
-        1,
-        Layer::Space,
-        3,
-    )?;
-    let record = accepted(&rt, load_lent(&rt, rt.alloc(), &script, 2, 8, 0)?)?;
-    assert_eq!(rt; record.used, 2);
-    assert_eq!(rt; record.weight, 2);
-    assert_eq!(rt; record.changes, 0);
+const EMPTY: (Kind, u32) = (Kind::Empty, 0);
+
+// How many words are used, how many working words and labels there are, and what load makes of it.
+type Case = (usize, usize, usize, Expected);
+
+fn expect_each(
+    rt: &(impl Abort + AllocGlobal),
+    words: &[(Kind, u32)],
+    cases: &[Case],
+) -> Result<(), Fail> {
+    let script = written(rt.alloc(), words)?;
+    for (used, working, labels, expected) in cases {
+        let lengths = Lengths {
+            used: *used,
+            working: *working,
+            labels: *labels,
+        };
+        expect(rt, script.as_slice(), lengths, *expected)?;
+    }
     Ok(())
 }
 
+// Five words, of which the last three are a statement.
+static FIVE: [(Kind, u32); 5] = [(Kind::Body, 2), EMPTY, (Kind::Block, 2), EMPTY, EMPTY];
+
+static USED_OF_TWO: [Case; 4] = [
+    (0, 8, 0, refused!(1, Space, 0)),
+    (3, 12, 0, refused!(1, Space, 3)),
+    // the lower number is told
+    (3, 0, 17, refused!(1, Space, 3)),
+    (2, 8, 0, Ok(2)),
+];
+
+static USED_OF_FIVE: [Case; 4] = [
+    (0, 20, 0, refused!(1, Space, 0)),
+    (6, 24, 0, refused!(1, Space, 6)),
+    // the lower number is told
+    (6, 0, 17, refused!(1, Space, 6)),
+    (5, 20, 0, Ok(6)),
+];
+
+#[test]
+fn used_length(rt: HostRuntime) -> Result<(), Fail> {
+    expect_each(&rt, &[(Kind::Body, 1), EMPTY], &USED_OF_TWO)?;
+    expect_each(&rt, &FIVE, &USED_OF_FIVE)
+}
+
+static LONGEST: [Case; 3] = [
+    (16_000, 64_000, 0, Ok(16_000)),
+    (16_000, 64_004, 0, Ok(16_000)),
+    (16_001, 64_004, 0, refused!(2, Space, 16_001)),
+];
+
+// A Body of 15,999 statements, with 16,000 words and with one more.
 #[test]
 fn longest_script(rt: HostRuntime) -> Result<(), Fail> {
-    let mut script = vec![in rt.alloc(); word(Kind::Empty, 0); 16_001]?;
-    if let Some(body) = script.as_mut_slice().get_mut(0) {
-        *body = word(Kind::Body, 15_999);
+    let mut words = vec![in rt.alloc(); EMPTY; 16_001]?;
+    if let Some(body) = words.as_mut_slice().first_mut() {
+        *body = (Kind::Body, 15_999);
     }
-    let record = accepted(
-        &rt,
-        load_lent(&rt, rt.alloc(), script.as_slice(), 16_000, 64_000, 0)?,
-    )?;
-    assert_eq!(rt; record.weight, 16_000);
-    refused(
-        &rt,
-        load_lent(&rt, rt.alloc(), script.as_slice(), 16_001, 64_004, 0)?,
-        2,
-        Layer::Space,
-        16_001,
-    )
+    expect_each(&rt, words.as_slice(), &LONGEST)
 }
+
+static WORKING: [Case; 5] = [
+    (5, 20, 0, Ok(5)),
+    (5, 19, 0, refused!(3, Space, 19)),
+    (5, 19, 17, refused!(3, Space, 19)),
+    (5, 20, 16, Ok(5)),
+    (5, 20, 17, refused!(4, Space, 17)),
+];
+
+static WORKING_OF_FIVE: [Case; 5] = [
+    (5, 19, 0, refused!(3, Space, 19)),
+    (5, 19, 17, refused!(3, Space, 19)),
+    (5, 21, 16, Ok(6)),
+    (5, 20, 17, refused!(4, Space, 17)),
+    (4, 15, 0, refused!(3, Space, 15)),
+];
 
 #[test]
 fn working_words_and_labels(rt: HostRuntime) -> Result<(), Fail> {
-    let script = [
-        word(Kind::Body, 4),
-        word(Kind::Empty, 0),
-        word(Kind::Empty, 0),
-        word(Kind::Empty, 0),
-        word(Kind::Empty, 0),
-    ];
-    let _ = accepted(&rt, load_lent(&rt, rt.alloc(), &script, 5, 20, 0)?)?;
-    refused(
+    expect_each(
         &rt,
-        load_lent(&rt, rt.alloc(), &script, 5, 19, 0)?,
-        3,
-        Layer::Space,
-        19,
+        &[(Kind::Body, 4), EMPTY, EMPTY, EMPTY, EMPTY],
+        &WORKING,
     )?;
-    refused(
-        &rt,
-        load_lent(&rt, rt.alloc(), &script, 5, 19, 17)?,
-        3,
-        Layer::Space,
-        19,
-    )?;
-    let _ = accepted(&rt, load_lent(&rt, rt.alloc(), &script, 5, 20, 16)?)?;
-    refused(
-        &rt,
-        load_lent(&rt, rt.alloc(), &script, 5, 20, 17)?,
-        4,
-        Layer::Space,
-        17,
-    )
+    expect_each(&rt, &FIVE, &WORKING_OF_FIVE)
 }
+
+static DUE_AND_LEFT: [Case; 3] = [
+    (2, 8, 0, refused!(5, Reader, 2)),
+    (3, 12, 0, Ok(3)),
+    (4, 16, 0, refused!(10, Reader, 3)),
+];
+
+static DUE_OF_FIVE: [Case; 4] = [
+    (1, 4, 0, refused!(5, Reader, 1)),
+    (2, 8, 0, refused!(5, Reader, 2)),
+    (3, 12, 0, refused!(5, Reader, 3)),
+    (4, 16, 0, refused!(5, Reader, 4)),
+];
 
 #[test]
 fn words_due_and_left(rt: HostRuntime) -> Result<(), Fail> {
-    let script = [
-        word(Kind::Body, 2),
-        word(Kind::Empty, 0),
-        word(Kind::Empty, 0),
-        word(Kind::Empty, 0),
-    ];
-    refused(
+    expect_each(&rt, &[(Kind::Body, 2), EMPTY, EMPTY, EMPTY], &DUE_AND_LEFT)?;
+    expect_each(&rt, &FIVE, &DUE_OF_FIVE)?;
+    // more parts than words, words left over
+    expect_each(
         &rt,
-        load_lent(&rt, rt.alloc(), &script, 2, 8, 0)?,
-        5,
-        Layer::Reader,
-        2,
+        &[(Kind::Body, 134_217_727)],
+        &[(1, 4, 0, refused!(5, Reader, 1))],
     )?;
-    let _ = accepted(&rt, load_lent(&rt, rt.alloc(), &script, 3, 12, 0)?)?;
-    refused(
+    expect_each(
         &rt,
-        load_lent(&rt, rt.alloc(), &script, 4, 16, 0)?,
-        10,
-        Layer::Reader,
-        3,
-    )?;
-    refused(
-        &rt,
-        load_all(&rt, rt.alloc(), &[word(Kind::Body, 134_217_727)])?,
-        5,
-        Layer::Reader,
-        1,
-    )?;
-    refused(
-        &rt,
-        load_all(
-            &rt,
-            rt.alloc(),
-            &[word(Kind::Body, 0), word(Kind::Unlisted, 0)],
-        )?,
-        10,
-        Layer::Reader,
-        1,
+        &[(Kind::Body, 0), (Kind::Unlisted, 0)],
+        &[(2, 8, 0, refused!(10, Reader, 1))],
     )
 }

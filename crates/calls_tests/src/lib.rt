@@ -1,16 +1,10 @@
-// Tests of load at the limits of its refusals, one by one and by tables.
+// Tests of load on scripts that break a rule, and on their neighbours that do not.
 
 #![tactic(auto)]
 
 #[cfg(test)]
-mod expected;
-#[cfg(test)]
-mod length_table;
-#[cfg(test)]
 mod lengths;
 #[cfg(test)]
-mod lent;
-#[cfg(test)]
-mod rule_table;
+mod loads;
 #[cfg(test)]
 mod rules;
