@@ -1,6 +1,8 @@
 // Scripts of several shapes, each as long as asked or a few words shorter.
-use std::alloc::{AllocError, Global};
-use words::word::{Kind, NUMBER_LIMIT};
+use anyhow::anyhow;
+use std::alloc::Global;
+use std::{fmt, iter};
+use words::word::{Kind, Word};
 
 // As many statements as may stand one inside another above the innermost.
 const NESTED: u32 = 99;
@@ -17,89 +19,74 @@ pub(crate) enum Shape {
     Jumps,
 }
 
-fn word(kind: Kind, number: u32) -> u32 {
-    kind.code().wrapping_mul(NUMBER_LIMIT).wrapping_add(number)
-}
-
-fn push_nested(script: &mut Vec<u32>, kind: Kind) -> Result<(), AllocError> {
-    for i in 0..NESTED {
-        let number = match kind {
-            Kind::Label => i,
-            _ => 1,
-        };
-        script.push(word(kind, number))?;
-    }
-    Ok(())
-}
-
-// Statements of the Body, each of so many words, and how many there are.
-fn chunks(length: usize, size: usize) -> u32 {
-    let count = length.saturating_sub(1) / size.max(1);
-    u32::try_from(count).unwrap_or(0)
-}
-
-fn flat(heap: Global, length: usize) -> Result<Vec<u32>, AllocError> {
-    let mut script = Vec::new(heap);
-    let count = chunks(length, 1);
-    script.push(word(Kind::Body, count))?;
-    for _ in 0..count {
-        script.push(word(Kind::Empty, 0))?;
-    }
-    Ok(script)
-}
-
-fn deep(heap: Global, length: usize) -> Result<Vec<u32>, AllocError> {
-    let mut script = Vec::new(heap);
-    let count = chunks(length, NESTED as usize + 1);
-    script.push(word(Kind::Body, count))?;
-    for _ in 0..count {
-        push_nested(&mut script, Kind::Block)?;
-        script.push(word(Kind::Empty, 0))?;
-    }
-    Ok(script)
-}
-
-fn labels(heap: Global, length: usize) -> Result<Vec<u32>, AllocError> {
-    let mut script = Vec::new(heap);
-    let count = chunks(length, NESTED as usize + 3);
-    script.push(word(Kind::Body, count))?;
-    for _ in 0..count {
-        push_nested(&mut script, Kind::Label)?;
-        script.push(word(Kind::While, 0))?;
-        script.push(word(Kind::Expression, 1))?;
-        script.push(word(Kind::ContinueTo, 0))?;
-    }
-    Ok(script)
-}
-
-fn jumps(heap: Global, length: usize) -> Result<Vec<u32>, AllocError> {
-    let mut script = Vec::new(heap);
-    let count = chunks(length, 1).saturating_sub(NESTED + 1);
-    script.push(word(Kind::Body, 1))?;
-    push_nested(&mut script, Kind::Label)?;
-    script.push(word(Kind::Block, count))?;
-    for _ in 0..count {
-        script.push(word(Kind::BreakTo, NESTED - 1))?;
-    }
-    Ok(script)
-}
-
-impl Shape {
-    pub(crate) fn name(self) -> &'static str {
-        match self {
+impl fmt::Display for Shape {
+    fn fmt<W: fmt::Write>(&self, f: &mut fmt::Formatter<W>) -> fmt::Result {
+        f.write_str(match self {
             Shape::Flat => "flat",
             Shape::Deep => "deep",
             Shape::Labels => "labels",
             Shape::Jumps => "jumps",
+        })
+    }
+}
+
+fn word(kind: Kind, number: u32) -> anyhow::Result<u32> {
+    Word { kind, number }
+        .write()
+        .ok_or_else(|| anyhow!("no word has the number {number}"))
+}
+
+// Labels inside one another.
+fn labels(heap: Global) -> anyhow::Result<Vec<u32>> {
+    (0..NESTED)
+        .map(|label| word(Kind::Label, label))
+        .try_collect(heap)
+}
+
+impl Shape {
+    // The words that are repeated to the script's end.
+    fn chunk(self, heap: Global) -> anyhow::Result<Vec<u32>> {
+        match self {
+            Shape::Flat => Ok(vec![in heap; word(Kind::Empty, 0)?]?),
+            Shape::Deep => {
+                let mut words = vec![in heap; word(Kind::Block, 1)?; NESTED as usize]?;
+                words.push(word(Kind::Empty, 0)?)?;
+                Ok(words)
+            }
+            Shape::Labels => {
+                let mut words = labels(heap)?;
+                words.extend_from_slice(&[
+                    word(Kind::While, 0)?,
+                    word(Kind::Expression, 1)?,
+                    word(Kind::ContinueTo, 0)?,
+                ])?;
+                Ok(words)
+            }
+            Shape::Jumps => Ok(vec![in heap; word(Kind::BreakTo, NESTED - 1)?]?),
         }
     }
 
-    pub(crate) fn script(self, heap: Global, length: usize) -> Result<Vec<u32>, AllocError> {
+    // The words before the chunks, if there are so many.
+    fn beginning(self, heap: Global, chunks: u32) -> anyhow::Result<Vec<u32>> {
         match self {
-            Shape::Flat => flat(heap, length),
-            Shape::Deep => deep(heap, length),
-            Shape::Labels => labels(heap, length),
-            Shape::Jumps => jumps(heap, length),
+            Shape::Jumps => {
+                let mut words = vec![in heap; word(Kind::Body, 1)?]?;
+                words.extend_from_slice(labels(heap)?.as_slice())?;
+                words.push(word(Kind::Block, chunks)?)?;
+                Ok(words)
+            }
+            _ => Ok(vec![in heap; word(Kind::Body, chunks)?]?),
         }
+    }
+
+    pub(crate) fn script(self, heap: Global, length: usize) -> anyhow::Result<Vec<u32>> {
+        let chunk = self.chunk(heap)?;
+        let left = length.saturating_sub(self.beginning(heap, 0)?.len());
+        let count = left.checked_div(chunk.len()).unwrap_or(0);
+        let mut script = self.beginning(heap, u32::try_from(count)?)?;
+        for _ in 0..count {
+            script.extend_from_slice(chunk.as_slice())?;
+        }
+        Ok(script)
     }
 }
