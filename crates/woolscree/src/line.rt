@@ -10,10 +10,7 @@ pub(crate) struct Line<'a> {
 }
 
 fn before_comment(part: &str) -> &str {
-    match part.split_once('#') {
-        Some((before, _)) => before,
-        None => part,
-    }
+    part.split_once('#').map_or(part, |(before, _)| before)
 }
 
 // What stands before a text in quotes, and that text.
@@ -24,9 +21,7 @@ fn cut(line: &str) -> Result<(&str, Option<&str>), Problem> {
     if before.contains('#') {
         return Ok((before_comment(line), None));
     }
-    let Some((text, after)) = rest.split_once('"') else {
-        return Err(Problem::OpenText);
-    };
+    let (text, after) = rest.split_once('"').ok_or(Problem::OpenText)?;
     if !before_comment(after).trim().is_empty() {
         return Err(Problem::AfterText);
     }

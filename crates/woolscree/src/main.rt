@@ -3,6 +3,7 @@
 #![tactic(auto)]
 
 mod job;
+mod landing;
 mod line;
 mod pretty;
 mod problem;
@@ -10,10 +11,12 @@ mod report;
 mod row;
 mod script;
 mod summary;
+mod told;
 mod value;
 
-use anyhow::anyhow;
+use anyhow::ensure;
 use job::Job;
+use problem::Problem;
 use report::print_job;
 use std::io::Read;
 use std::{env, fs};
@@ -27,7 +30,7 @@ fn run_job(rt: &HostRuntime, text: &str) -> anyhow::Result<bool> {
         Ok(job) => match job.host {
             Some(kind) => Ok(print_job(rt, &job, kind)?),
             None => {
-                println!(rt; "syntax error: the job names no host")?;
+                println!(rt; "syntax error: {}", Problem::NoHost)?;
                 Ok(false)
             }
         },
@@ -52,26 +55,20 @@ fn run_stdin(rt: &HostRuntime) -> anyhow::Result<bool> {
 
 // Runs the jobs named by the arguments, or the one on standard input.
 fn run(rt: &HostRuntime) -> anyhow::Result<()> {
-    let mut files: usize = 0;
-    let mut report = false;
-    let mut all_made = true;
-    for argument in env::args(rt)?.skip(1) {
-        if argument.as_str() == REPORT {
-            report = true;
-        } else {
-            files = files.saturating_add(1);
-            let made = run_file(rt, argument.as_str())?;
-            all_made = all_made && made;
-        }
+    let arguments: Vec<String> = env::args(rt)?.skip(1).collect(rt.alloc())?;
+    let (flags, paths): (Vec<&str>, Vec<&str>) = arguments
+        .iter()
+        .map(|argument| argument.as_str())
+        .partition(rt.alloc(), |argument| *argument == REPORT)?;
+    let mut accepted = true;
+    for path in &paths {
+        accepted &= run_file(rt, path)?;
     }
-    if files == 0 {
-        all_made = run_stdin(rt)?;
+    if paths.is_empty() {
+        accepted = run_stdin(rt)?;
     }
-    if all_made || report {
-        Ok(())
-    } else {
-        Err(anyhow!("a job was refused"))
-    }
+    ensure!(accepted || !flags.is_empty(), "a job was refused");
+    Ok(())
 }
 
 fn main(rt: HostRuntime) -> anyhow::Result<()> {

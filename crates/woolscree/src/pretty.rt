@@ -1,359 +1,311 @@
 // A script as indented JavaScript-like text.
+ghost use Rattle.std.specs.Prelude.{◌<◌, ◌≤◌, length, OnOk, IfSome, OnSome};
+
 use crate::job::Job;
-use crate::row::expression_text;
-use grammar::{FOR_DECLARATION, FOR_EXPRESSION, FOR_TEST, FOR_UPDATE, TRY_CATCH, TRY_FINALIZER};
-use std::alloc::{AllocError, Global};
+use crate::told::{Expression, Variable};
+use grammar::{
+    FOR_DECLARATION, FOR_EXPRESSION, FOR_TEST, FOR_UPDATE, IF_ALTERNATE, RETURN_VALUE, TRY_CATCH,
+    TRY_FINALIZER,
+};
+use std::alloc::AllocError;
 use words::word::{Kind, Word};
-
-// What is still to be written, the next on top.
-#[derive(Clone, Copy)]
-enum Item {
-    Text(&'static str),
-    // a new line; one step further in, or out, from here on
-    Line,
-    Inward,
-    Outward,
-    // so many statements, or cases, each on a line of its own
-    List(u32),
-    Cases(u32),
-    Statement,
-    Body,
-    Catch,
-    Expression,
-    // so many more expressions of a Sequence, declarators of a declaration
-    Parts(u32),
-    Declarators(u32),
-}
-
-// Each word is written by at most so many items.
-const ITEMS_A_WORD: usize = 16;
 
 // Writes a script from its words, front to back.
 #[derive(Drop)]
 struct Printer<'a> {
     job: &'a Job,
-    heap: Global,
+    // The words that are still to be written.
     words: &'a [u32],
-    at: usize,
-    indent: u32,
-    due: Vec<Item>,
-    out: String,
+    out: Page,
+}
+
+// Text in lines, each indented.
+#[derive(Drop)]
+struct Page {
+    text: String,
+    indent: usize,
 }
 
 fn has(number: u32, part: u32) -> bool {
     number & part != 0
 }
 
-// What a statement is written as, where nothing but its kind and whether its number is 0 counts.
-fn template(kind: Kind, zero: bool) -> &'static [Item] {
-    match kind {
-        Kind::Empty => &[Item::Text(";")],
-        Kind::Expr => &[Item::Expression, Item::Text(";")],
-        Kind::If if zero => &[
-            Item::Text("if ("),
-            Item::Expression,
-            Item::Text(") "),
-            Item::Statement,
-        ],
-        Kind::If => &[
-            Item::Text("if ("),
-            Item::Expression,
-            Item::Text(") "),
-            Item::Statement,
-            Item::Text(" else "),
-            Item::Statement,
-        ],
-        Kind::While => &[
-            Item::Text("while ("),
-            Item::Expression,
-            Item::Text(") "),
-            Item::Statement,
-        ],
-        Kind::Do => &[
-            Item::Text("do "),
-            Item::Statement,
-            Item::Text(" while ("),
-            Item::Expression,
-            Item::Text(");"),
-        ],
-        Kind::Switch => &[Item::Text("switch ("), Item::Expression, Item::Text(") {")],
-        Kind::Break => &[Item::Text("break;")],
-        Kind::Continue => &[Item::Text("continue;")],
-        Kind::Return if zero => &[Item::Text("return;")],
-        Kind::Return => &[Item::Text("return "), Item::Expression, Item::Text(";")],
-        Kind::Throw => &[Item::Text("throw "), Item::Expression, Item::Text(";")],
-        _ => &[Item::Text("?")],
-    }
-}
-
-static END_OF_LIST: [Item; 3] = [Item::Outward, Item::Line, Item::Text("}")];
-
-static END_OF_FOR: [Item; 2] = [Item::Text(") "), Item::Statement];
-
-static AFTER_SEMICOLON: [Item; 2] = [Item::Text(" "), Item::Expression];
-
-static FINALLY: [Item; 2] = [Item::Text(" finally "), Item::Body];
-
-impl<'a> Printer<'a> {
-    fn next(&mut self) -> Word {
-        let word = match self.words.get(self.at) {
-            Some(word) => Word::read(*word),
-            None => Word {
-                kind: Kind::Unlisted,
-                number: 0,
-            },
-        };
-        self.at = self.at.saturating_add(1);
-        word
-    }
-
-    // The items come next, in this order.
-    fn then(&mut self, items: &[Item]) -> Result<(), AllocError> {
-        for item in items.iter().rev() {
-            self.due.push(*item)?;
-        }
-        Ok(())
-    }
-
-    fn later(&mut self, item: Item) -> Result<(), AllocError> {
-        self.due.push(item)?;
-        Ok(())
-    }
-
-    fn name(&mut self, number: u32) -> Result<(), AllocError> {
-        match self.job.name_of(number) {
-            Some(name) => self.out.push_str(name),
-            None => {
-                let text = format!(in self.heap; "name{number}")?;
-                self.out.push_str(text.as_str())
-            }
-        }
-    }
-
-    fn label(&mut self, before: &str, number: u32, after: &str) -> Result<(), AllocError> {
-        let text = format!(in self.heap; "{before}L{number}{after}")?;
-        self.out.push_str(text.as_str())
+impl Page {
+    fn push(&mut self, text: &str) -> Result<(), AllocError> {
+        self.text.push_str(text)
     }
 
     fn line(&mut self) -> Result<(), AllocError> {
-        self.out.push_str("\n")?;
+        self.text.push_str("\n")?;
         for _ in 0..self.indent {
-            self.out.push_str("  ")?;
+            self.text.push_str("  ")?;
         }
         Ok(())
     }
 
-    fn expression(&mut self) -> Result<(), AllocError> {
-        let word = self.next();
-        if let Kind::Sequence = word.kind {
-            self.later(Item::Parts(word.number.saturating_sub(1)))?;
-            return self.later(Item::Expression);
-        }
-        let text = expression_text(self.heap, self.job, word.number)?;
-        self.out.push_str(text.as_str())
+    fn name(&mut self, job: &Job, number: u32) -> Result<(), AllocError> {
+        write!(self.text, "{}", Variable(job, number))
     }
 
-    // One declarator, and so many more after it.
-    fn declarators(&mut self, more: u32) -> Result<(), AllocError> {
-        let word = self.next();
-        self.name(word.number)?;
-        self.later(Item::Declarators(more))?;
-        if let Kind::NameInit = word.kind {
-            self.out.push_str(" = ")?;
-            return self.later(Item::Expression);
+    // A text with a label in it.
+    fn label(&mut self, before: &str, number: u32, after: &str) -> Result<(), AllocError> {
+        write!(self.text, "{before}L{number}{after}")
+    }
+}
+
+impl<'a> Printer<'a> {
+    fn next(&mut self) -> Option<Word>
+        ensures shorter { OnSome result (length self.new.words.now < length self.old.words.now) }
+        ensures left { length self.new.words.now ≤ length self.old.words.now }
+    {
+        let (first, rest) = self.words.split_first()?;
+        self.words = rest;
+        Some(Word::read(*first))
+    }
+
+    // The number of the next word; the words of an accepted script do not end before.
+    fn next_number(&mut self) -> u32
+        ensures left { length self.new.words.now ≤ length self.old.words.now }
+    {
+        self.next().map_or(0, |word| word.number)
+    }
+
+    fn expression(&mut self) -> Result<(), AllocError>
+        ensures left { OnOk result (length self.new.words.now ≤ length self.old.words.now) }
+    {
+        let Some(word) = self.next() else {
+            return Ok(());
+        };
+        if word.kind != Kind::Sequence {
+            return write!(self.out.text, "{}", Expression(self.job, word.number));
+        }
+        for part in 0..word.number {
+            if part > 0 {
+                self.out.push(", ")?;
+            }
+            let e = self.next_number();
+            write!(self.out.text, "{}", Expression(self.job, e))?;
         }
         Ok(())
     }
 
-    fn declaration(&mut self, word: Word) -> Result<(), AllocError> {
-        match word.kind {
-            Kind::Let => self.out.push_str("let ")?,
-            _ => self.out.push_str("var ")?,
-        }
-        self.declarators(word.number.saturating_sub(1))
+    // An expression between two texts.
+    fn between(&mut self, before: &str, after: &str) -> Result<(), AllocError>
+        ensures left { OnOk result (length self.new.words.now ≤ length self.old.words.now) }
+    {
+        self.out.push(before)?;
+        self.expression()?;
+        self.out.push(after)
     }
 
-    // The statements of a list between braces.
-    fn braces(&mut self, count: u32) -> Result<(), AllocError> {
-        if count == 0 {
-            return self.out.push_str("{}");
+    fn declaration(&mut self, word: Word) -> Result<(), AllocError>
+        ensures left { OnOk result (length self.new.words.now ≤ length self.old.words.now) }
+    {
+        self.out.push(if word.kind == Kind::Let {
+            "let "
+        } else {
+            "var "
+        })?;
+        for declarator in 0..word.number {
+            if declarator > 0 {
+                self.out.push(", ")?;
+            }
+            let Some(name) = self.next() else {
+                return Ok(());
+            };
+            self.out.name(self.job, name.number)?;
+            if name.kind == Kind::NameInit {
+                self.between(" = ", "")?;
+            }
         }
-        self.out.push_str("{")?;
-        self.then(&END_OF_LIST)?;
-        self.later(Item::List(count))?;
-        self.later(Item::Inward)
+        Ok(())
     }
 
-    // The parts of a For, the last of them first.
-    fn for_parts(&mut self, number: u32) -> Result<(), AllocError> {
-        self.then(&END_OF_FOR)?;
-        if has(number, FOR_UPDATE) {
-            self.then(&AFTER_SEMICOLON)?;
-        }
-        self.later(Item::Text(";"))?;
-        if has(number, FOR_TEST) {
-            self.then(&AFTER_SEMICOLON)?;
-        }
-        self.later(Item::Text(";"))?;
-        self.out.push_str("for (")?;
+    // A For but for its body.
+    fn for_head(&mut self, number: u32) -> Result<(), AllocError>
+        ensures left { OnOk result (length self.new.words.now ≤ length self.old.words.now) }
+    {
+        self.out.push("for (")?;
         if has(number, FOR_EXPRESSION) {
-            return self.later(Item::Expression);
+            self.expression()?;
+        } else if has(number, FOR_DECLARATION)
+            && let Some(word) = self.next()
+        {
+            self.declaration(word)?;
         }
-        if has(number, FOR_DECLARATION) {
-            let declaration = self.next();
-            return self.declaration(declaration);
+        for part in [FOR_TEST, FOR_UPDATE] {
+            self.out.push(";")?;
+            if has(number, part) {
+                self.between(" ", "")?;
+            }
+        }
+        self.out.push(") ")
+    }
+
+    // So many statements, each on a line of its own, one step further in.
+    #[cycle(statement)]
+    fn list(&mut self, count: u32) -> Result<(), AllocError>
+        ensures left { OnOk result (length self.new.words.now ≤ length self.old.words.now) }
+    {
+        self.out.indent = self.out.indent.saturating_add(1);
+        for _ in 0..count {
+            self.out.line()?;
+            self.statement()?;
+        }
+        self.out.indent = self.out.indent.saturating_sub(1);
+        Ok(())
+    }
+
+    // So many statements between braces.
+    #[cycle(statement)]
+    fn braces(&mut self, count: u32) -> Result<(), AllocError>
+        ensures left { OnOk result (length self.new.words.now ≤ length self.old.words.now) }
+    {
+        if count == 0 {
+            return self.out.push("{}");
+        }
+        self.out.push("{")?;
+        self.list(count)?;
+        self.out.line()?;
+        self.out.push("}")
+    }
+
+    #[cycle(statement)]
+    fn switch(&mut self, cases: u32) -> Result<(), AllocError>
+        ensures left { OnOk result (length self.new.words.now ≤ length self.old.words.now) }
+    {
+        self.between("switch (", ") {")?;
+        for _ in 0..cases {
+            self.out.line()?;
+            let Some(case) = self.next() else {
+                return Ok(());
+            };
+            if case.kind == Kind::Default {
+                self.out.push("default:")?;
+            } else {
+                self.between("case ", ":")?;
+            }
+            self.list(case.number)?;
+        }
+        self.out.line()?;
+        self.out.push("}")
+    }
+
+    // A Body or a Catch, between braces.
+    #[cycle(statement)]
+    fn body(&mut self) -> Result<(), AllocError>
+        ensures left { OnOk result (length self.new.words.now ≤ length self.old.words.now) }
+    {
+        let Some(body) = self.next() else {
+            return Ok(());
+        };
+        if body.kind == Kind::CatchName {
+            let name = self.next_number();
+            self.out.push("(")?;
+            self.out.name(self.job, name)?;
+            self.out.push(") ")?;
+        }
+        self.braces(body.number)
+    }
+
+    #[cycle(statement)]
+    fn try_parts(&mut self, number: u32) -> Result<(), AllocError>
+        ensures left { OnOk result (length self.new.words.now ≤ length self.old.words.now) }
+    {
+        self.out.push("try ")?;
+        self.body()?;
+        if has(number, TRY_CATCH) {
+            self.out.push(" catch ")?;
+            self.body()?;
+        }
+        if has(number, TRY_FINALIZER) {
+            self.out.push(" finally ")?;
+            self.body()?;
         }
         Ok(())
     }
 
-    fn try_parts(&mut self, number: u32) -> Result<(), AllocError> {
-        self.out.push_str("try ")?;
-        if has(number, TRY_FINALIZER) {
-            self.then(&FINALLY)?;
-        }
-        if has(number, TRY_CATCH) {
-            self.later(Item::Catch)?;
-        }
-        self.later(Item::Body)
-    }
-
-    fn switch_parts(&mut self, count: u32) -> Result<(), AllocError> {
-        self.then(&END_OF_LIST)?;
-        self.later(Item::Inward)?;
-        self.later(Item::Cases(count))?;
-        self.then(template(Kind::Switch, false))
-    }
-
-    fn statement(&mut self) -> Result<(), AllocError> {
-        let word = self.next();
+    #[cycle(statement)]
+    fn statement(&mut self) -> Result<(), AllocError>
+        ensures left { OnOk result (length self.new.words.now ≤ length self.old.words.now) }
+    {
+        let Some(word) = self.next() else {
+            return Ok(());
+        };
+        let number = word.number;
         match word.kind {
-            Kind::Block => self.braces(word.number),
-            Kind::Var | Kind::Let => {
-                self.later(Item::Text(";"))?;
-                self.declaration(word)
+            Kind::Block => self.braces(number),
+            Kind::Switch => self.switch(number),
+            Kind::Try => self.try_parts(number),
+            Kind::If => self.if_parts(number),
+            Kind::For => {
+                self.for_head(number)?;
+                self.statement()
             }
-            Kind::For => self.for_parts(word.number),
-            Kind::Switch => self.switch_parts(word.number),
+            Kind::While => {
+                self.between("while (", ") ")?;
+                self.statement()
+            }
+            Kind::Do => {
+                self.out.push("do ")?;
+                self.statement()?;
+                self.between(" while (", ");")
+            }
             Kind::Label => {
-                self.label("", word.number, ": ")?;
-                self.later(Item::Statement)
+                self.out.label("", number, ": ")?;
+                self.statement()
             }
-            Kind::BreakTo => self.label("break ", word.number, ";"),
-            Kind::ContinueTo => self.label("continue ", word.number, ";"),
-            Kind::Try => self.try_parts(word.number),
-            _ => self.then(template(word.kind, word.number == 0)),
+            _ => self.simple(word),
         }
     }
 
-    // One case, and so many after it.
-    fn cases(&mut self, more: u32) -> Result<(), AllocError> {
-        self.line()?;
-        let word = self.next();
-        self.later(Item::Cases(more))?;
-        self.later(Item::Outward)?;
-        self.later(Item::List(word.number))?;
-        self.later(Item::Inward)?;
-        if let Kind::Default = word.kind {
-            return self.out.push_str("default:");
+    #[cycle(statement)]
+    fn if_parts(&mut self, number: u32) -> Result<(), AllocError>
+        ensures left { OnOk result (length self.new.words.now ≤ length self.old.words.now) }
+    {
+        self.between("if (", ") ")?;
+        self.statement()?;
+        if has(number, IF_ALTERNATE) {
+            self.out.push(" else ")?;
+            self.statement()?;
         }
-        self.out.push_str("case ")?;
-        self.later(Item::Text(":"))?;
-        self.later(Item::Expression)
+        Ok(())
     }
 
-    fn catch(&mut self) -> Result<(), AllocError> {
-        let word = self.next();
-        self.out.push_str(" catch ")?;
-        if let Kind::CatchName = word.kind {
-            self.out.push_str("(")?;
-            let name = self.next();
-            self.name(name.number)?;
-            self.out.push_str(") ")?;
-        }
-        self.braces(word.number)
-    }
-
-    fn list(&mut self, more: u32) -> Result<(), AllocError> {
-        self.line()?;
-        self.later(Item::List(more))?;
-        self.later(Item::Statement)
-    }
-
-    fn parts(&mut self, more: u32) -> Result<(), AllocError> {
-        self.out.push_str(", ")?;
-        self.later(Item::Parts(more))?;
-        self.later(Item::Expression)
-    }
-
-    fn item(&mut self, item: Item) -> Result<(), AllocError> {
-        match item {
-            Item::Text(text) => self.out.push_str(text),
-            Item::Line => self.line(),
-            Item::Inward => {
-                self.indent = self.indent.saturating_add(1);
-                Ok(())
+    // A statement with no statement in it.
+    fn simple(&mut self, word: Word) -> Result<(), AllocError>
+        ensures left { OnOk result (length self.new.words.now ≤ length self.old.words.now) }
+    {
+        match word.kind {
+            Kind::Empty => self.out.push(";"),
+            Kind::Expr => self.between("", ";"),
+            Kind::Var | Kind::Let => {
+                self.declaration(word)?;
+                self.out.push(";")
             }
-            Item::Outward => {
-                self.indent = self.indent.saturating_sub(1);
-                Ok(())
-            }
-            Item::Statement => self.statement(),
-            Item::Body => {
-                let word = self.next();
-                self.braces(word.number)
-            }
-            Item::Catch => self.catch(),
-            Item::Expression => self.expression(),
-            _ => self.repeated(item),
-        }
-    }
-
-    // The next of so many things alike, while there is one.
-    fn repeated(&mut self, item: Item) -> Result<(), AllocError> {
-        match item {
-            Item::List(count) if count > 0 => self.list(count - 1),
-            Item::Cases(count) if count > 0 => self.cases(count - 1),
-            Item::Parts(count) if count > 0 => self.parts(count - 1),
-            Item::Declarators(count) if count > 0 => {
-                self.out.push_str(", ")?;
-                self.declarators(count - 1)
-            }
-            _ => Ok(()),
+            Kind::Break => self.out.push("break;"),
+            Kind::BreakTo => self.out.label("break ", word.number, ";"),
+            Kind::Continue => self.out.push("continue;"),
+            Kind::ContinueTo => self.out.label("continue ", word.number, ";"),
+            Kind::Return if has(word.number, RETURN_VALUE) => self.between("return ", ";"),
+            Kind::Return => self.out.push("return;"),
+            Kind::Throw => self.between("throw ", ";"),
+            _ => self.out.push("?"),
         }
     }
 }
 
 // The text of an accepted script, a statement to a line.
-pub(crate) fn script_text<'a>(
-    heap: Global,
-    job: &'a Job,
-    words: &'a [u32],
-) -> Result<String, AllocError> {
+pub(crate) fn script_text(job: &Job, words: &[u32]) -> Result<String, AllocError> {
     let mut printer = Printer {
         job,
-        heap,
         words,
-        at: 0,
-        indent: 1,
-        due: Vec::new(heap),
-        out: String::new(heap),
+        out: Page {
+            text: String::new(job.heap),
+            indent: 0,
+        },
     };
-    let body = printer.next();
-    printer.later(Item::List(body.number))?;
-    for _ in 0..words.len().saturating_mul(ITEMS_A_WORD) {
-        match printer.due.pop() {
-            Some(item) => printer.item(item)?,
-            None => break,
-        }
-    }
-    let Printer {
-        job: _,
-        heap: _,
-        words: _,
-        at: _,
-        indent: _,
-        due: _,
-        out,
-    } = printer;
-    Ok(out)
+    let statements = printer.next_number();
+    printer.list(statements)?;
+    Ok(printer.out.text)
 }

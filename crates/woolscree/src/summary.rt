@@ -1,62 +1,63 @@
 // What is told of a loaded script: its text, its statements, its hoisted names and its record.
 use crate::job::Job;
 use crate::pretty::script_text;
+use crate::told::Variable;
 use calls::record::Record;
 use scan::{find_statement, statements};
 use std::io;
 use words::word::{Kind, Word};
 
-fn print_places(rt: &HostRuntime, words: &[u32]) -> io::Result<()> {
-    let count = statements(words);
-    println!(rt; "statements: {count}")?;
-    for place in 0..count {
-        if let Some(at) = find_statement(words, place) {
-            if let Some(word) = words.get(at) {
+// The script of a job, as load left it.
+#[derive(Clone, Copy)]
+pub(crate) struct Script<'a> {
+    pub(crate) job: &'a Job,
+    pub(crate) words: &'a [u32],
+}
+
+impl Script<'_> {
+    fn print_places(self, rt: &impl Print) -> io::Result<()> {
+        let count = statements(self.words);
+        println!(rt; "statements: {count}")?;
+        let found = (0..count).filter_map(|place| find_statement(self.words, place));
+        for (place, at) in found.enumerate() {
+            if let Some(word) = self.words.get(at) {
                 let kind = Word::read(*word).kind;
                 println!(rt; "  place {place}: {kind:?} at word {at}")?;
             }
         }
+        Ok(())
     }
-    Ok(())
-}
 
-fn print_name(rt: &HostRuntime, job: &Job, number: u32) -> io::Result<()> {
-    match job.name_of(number) {
-        Some(name) => print!(rt; " {name}"),
-        None => print!(rt; " name{number}"),
-    }
-}
-
-// The names of all Vars, in written order.
-fn print_hoisted(rt: &HostRuntime, job: &Job, words: &[u32]) -> io::Result<()> {
-    print!(rt; "hoisted names:")?;
-    let mut left: u32 = 0;
-    for word in words {
-        let word = Word::read(*word);
-        match word.kind {
-            Kind::Var => left = word.number,
-            Kind::Name | Kind::NameInit if left > 0 => {
-                left -= 1;
-                print_name(rt, job, word.number)?;
+    // The names of all Vars, in written order.
+    fn print_hoisted(self, rt: &impl Print) -> io::Result<()> {
+        print!(rt; "hoisted names:")?;
+        let mut left: u32 = 0;
+        for word in self.words {
+            let word = Word::read(*word);
+            match word.kind {
+                Kind::Var => left = word.number,
+                Kind::Name | Kind::NameInit if left > 0 => {
+                    left -= 1;
+                    print!(rt; " {}", Variable(self.job, word.number))?;
+                }
+                _ => {}
             }
-            _ => {}
         }
+        println!(rt; "")
     }
-    println!(rt; "")
-}
 
-pub(crate) fn print_script<'a>(
-    rt: &HostRuntime,
-    job: &'a Job,
-    words: &'a [u32],
-    record: Record,
-) -> io::Result<()> {
-    let text = script_text(rt.alloc(), job, words)?;
-    println!(rt; "script:{text}")?;
-    print_places(rt, words)?;
-    print_hoisted(rt, job, words)?;
-    let used = record.used;
-    let weight = record.weight;
-    let changes = record.changes;
-    println!(rt; "record: {used} words used, weight {weight}, {changes} changes")
+    // Prints the script, and its record.
+    pub(crate) fn print(self, rt: &impl Print, record: Record) -> io::Result<()> {
+        let text = script_text(self.job, self.words)?;
+        println!(rt; "script:{text}")?;
+        self.print_places(rt)?;
+        self.print_hoisted(rt)?;
+        let Record {
+            used,
+            weight,
+            changes,
+            ..
+        } = record;
+        println!(rt; "record: {used} words used, weight {weight}, {changes} changes")
+    }
 }

@@ -1,4 +1,4 @@
-// Values of the two hosts as text.
+// Values of the sheet host, as a job writes them.
 use crate::problem::Problem;
 use std::alloc::{AllocError, Global};
 use values::sheet_value::SheetValue;
@@ -11,19 +11,18 @@ pub(crate) fn read_value(word: &str) -> Result<SheetValue, Problem> {
         "false" => Ok(SheetValue::No),
         "NaN" => Ok(SheetValue::NotANumber),
         "-0" => Ok(SheetValue::MinusZero),
-        _ => match word.parse::<i32>() {
-            Ok(number) => Ok(SheetValue::Number(number)),
-            Err(_) => Err(Problem::BadValue),
-        },
+        _ => word
+            .parse::<i32>()
+            .map(SheetValue::Number)
+            .map_err(|_| Problem::BadValue),
     }
 }
 
 // The value of a text in quotes.
 pub(crate) fn read_text(text: &str) -> Result<SheetValue, Problem> {
-    match Text::new(text.as_bytes()) {
-        Some(text) => Ok(SheetValue::Text(text)),
-        None => Err(Problem::BadValue),
-    }
+    Text::new(text.as_bytes())
+        .map(SheetValue::Text)
+        .ok_or(Problem::BadValue)
 }
 
 // How a host's value is shown.
