@@ -31,9 +31,7 @@ impl fmt::Display for Shape {
 }
 
 fn word(kind: Kind, number: u32) -> anyhow::Result<u32> {
-    Word { kind, number }
-        .write()
-        .ok_or_else(|| anyhow!("no word has the number {number}"))
+    u32::try_from(Word { kind, number }).map_err(|fault| anyhow!("{fault:?}"))
 }
 
 // Labels inside one another.

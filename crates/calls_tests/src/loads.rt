@@ -36,7 +36,9 @@ const MARK: u32 = 77;
 
 // By the numbers, since an unlisted kind has no word that can be written.
 fn word(kind: Kind, number: u32) -> u32 {
-    kind.code().wrapping_mul(NUMBER_LIMIT).wrapping_add(number)
+    u32::from(kind)
+        .wrapping_mul(NUMBER_LIMIT)
+        .wrapping_add(number)
 }
 
 // The words of these kinds and numbers.
@@ -71,9 +73,7 @@ pub(crate) fn expect(
         assert_eq!(rt; record.used as usize, lengths.used);
         assert_eq!(rt; record.changes, 0);
     }
-    let came = answer
-        .map(|record| record.weight)
-        .map_err(|fault| fault.refusal());
+    let came = answer.map(|record| record.weight).map_err(Refusal::from);
     assert_eq!(rt; came, expected, "{lengths:?}");
     Ok(())
 }

@@ -60,7 +60,7 @@ impl<'a> Printer<'a> {
     {
         let (first, rest) = self.words.split_first()?;
         self.words = rest;
-        Some(Word::read(*first))
+        Some(Word::from(*first))
     }
 
     // The number of the next word; the words of an accepted script do not end before.

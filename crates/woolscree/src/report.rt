@@ -5,34 +5,28 @@ use crate::told::Expression;
 use crate::value::Shown;
 use calls::load::load;
 use faults::call::CallFault;
-use faults::tree::{ReaderFault, TreeFault};
 use host::Host;
 use refusals::host::HostFault;
-use refusals::refusal::{Layer, Refusal};
+use refusals::refusal::Refusal;
 use rows::Rows;
 use sheet::Sheet;
 use sheet::literals::Literals;
 use std::alloc::{AllocError, Global};
+use std::fmt::Display;
 use std::{io, iter};
+use thiserror::Error;
 
 // Why a job is not accepted, or cannot be printed.
-#[derive(Drop)]
+#[derive(Debug, Drop, Error)]
 enum Fault {
-    Host(HostFault),
-    Call(CallFault),
-    Io(io::Error),
-}
-
-impl From<io::Error> for Fault {
-    fn from(error: io::Error) -> Fault {
-        Fault::Io(error)
-    }
-}
-
-impl From<AllocError> for Fault {
-    fn from(error: AllocError) -> Fault {
-        Fault::Io(io::Error::from(error))
-    }
+    #[error(transparent)]
+    Host(#[from] HostFault),
+    #[error(transparent)]
+    Call(#[from] CallFault),
+    #[error(transparent)]
+    Io(#[from] io::Error),
+    #[error(transparent)]
+    Memory(#[from(alloc)] AllocError),
 }
 
 // How many working words a script needs for each word used.
@@ -121,8 +115,7 @@ where
             used,
             working.as_mut_slice(),
             job.dropped.as_slice(),
-        )
-        .map_err(Fault::Call)?;
+        )?;
         let words = space.as_slice().get(..used).unwrap_or(&[]);
         Ok(Script { job, words }.print(self.rt, record)?)
     }
@@ -139,8 +132,7 @@ where
 
 fn print_rows(rt: &impl Print, job: &Job) -> Result<(), Fault> {
     let mut host = Rows::least();
-    host.make(job.rows.as_slice(), job.granted.as_slice())
-        .map_err(Fault::Host)?;
+    host.make(job.rows.as_slice(), job.granted.as_slice())?;
     let host = &host;
     Report { rt, job, host }.print("row")
 }
@@ -152,20 +144,19 @@ fn print_sheet(rt: &impl Print, job: &Job) -> Result<(), Fault> {
         job.rows.as_slice(),
         job.entries.as_slice(),
         job.granted.as_slice(),
-    )
-    .map_err(Fault::Host)?;
+    )?;
     let host = &host;
     Report { rt, job, host }.print("sheet")
 }
 
-fn print_refusal(rt: &impl Print, refusal: Refusal, reason: &str) -> io::Result<()> {
+// Prints which rule was broken, and why.
+fn print_refusal<F: Copy + Display + Into<Refusal>>(rt: &impl Print, fault: F) -> io::Result<()> {
     let Refusal {
         number,
         layer,
         place,
-    } = refusal;
-    let layer = layer_name(layer);
-    println!(rt; "refused: number {number}, layer {layer}, place {place}: {reason}")
+    } = fault.into();
+    println!(rt; "refused: number {number}, layer {layer}, place {place}: {fault}")
 }
 
 // Makes the job's host, prints its table and loads the script, or prints the refusal; whether all was accepted.
@@ -176,50 +167,10 @@ pub(crate) fn print_job(rt: &impl Print, job: &Job, kind: HostKind) -> io::Resul
     };
     match printed {
         Ok(()) => return Ok(true),
-        Err(Fault::Host(fault)) => print_refusal(rt, fault.refusal(), host_reason(fault))?,
-        Err(Fault::Call(fault)) => print_refusal(rt, fault.refusal(), call_reason(fault))?,
+        Err(Fault::Host(fault)) => print_refusal(rt, fault)?,
+        Err(Fault::Call(fault)) => print_refusal(rt, fault)?,
         Err(Fault::Io(error)) => return Err(error),
+        Err(Fault::Memory(error)) => return Err(io::Error::from(error)),
     }
     Ok(false)
-}
-
-fn layer_name(layer: Layer) -> &'static str {
-    match layer {
-        Layer::Space => "space",
-        Layer::Reader => "reader",
-        Layer::Tree => "tree",
-        Layer::Host => "host",
-        Layer::Fold => "fold",
-    }
-}
-
-fn host_reason(fault: HostFault) -> &'static str {
-    match fault {
-        HostFault::RowCount(_) => "a host has 2 to 4,096 rows",
-        HostFault::Row(0) => "row 0 must be the literal 0",
-        HostFault::Row(1) => "row 1 must be the literal 1",
-        HostFault::Row(_) =>
-            "the row is of no kind that this host has, or what it looks at is not there, not earlier or of the wrong kind",
-    }
-}
-
-fn call_reason(fault: CallFault) -> &'static str {
-    match fault {
-        CallFault::Used(_) => "the used length is 0 or above the space",
-        CallFault::TooLong(_) => "a script has at most 16,000 words",
-        CallFault::WorkingWords(_) => "there must be four working words for each word used",
-        CallFault::Labels(_) => "at most 16 labels can be dropped",
-        CallFault::Tree(TreeFault::Reader(ReaderFault::WordDue(_))) =>
-            "a word is due here, and none is left",
-        CallFault::Tree(TreeFault::Format(_)) =>
-            "a word of this kind and number may not stand here",
-        CallFault::Tree(TreeFault::Depth(_)) => "more than 100 statements are around this one",
-        CallFault::Tree(TreeFault::Expression(_)) => "the host has no such expression",
-        CallFault::Tree(TreeFault::Jump(_)) =>
-            "the jump has no target around it, or the label stands inside itself",
-        CallFault::Tree(TreeFault::Reader(ReaderFault::WordsLeft(_))) =>
-            "the script has ended, and words are left over",
-        CallFault::NoSuchPlace(_) => "the script has no statement at this place",
-        CallFault::NoAlternate(_) => "a stub is due for an alternate that is not there",
-    }
 }

@@ -51,7 +51,7 @@ impl FromStr for Pending {
 }
 
 fn written(kind: Kind, number: u32) -> Result<u32, Problem> {
-    Word { kind, number }.write().ok_or(Problem::BadNumber)
+    u32::try_from(Word { kind, number }).map_err(|_| Problem::BadNumber)
 }
 
 impl Job {

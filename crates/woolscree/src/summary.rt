@@ -21,7 +21,7 @@ impl Script<'_> {
         let found = (0..count).filter_map(|place| find_statement(self.words, place));
         for (place, at) in found.enumerate() {
             if let Some(word) = self.words.get(at) {
-                let kind = Word::read(*word).kind;
+                let kind = Word::from(*word).kind;
                 println!(rt; "  place {place}: {kind:?} at word {at}")?;
             }
         }
@@ -33,7 +33,7 @@ impl Script<'_> {
         print!(rt; "hoisted names:")?;
         let mut left: u32 = 0;
         for word in self.words {
-            let word = Word::read(*word);
+            let word = Word::from(*word);
             match word.kind {
                 Kind::Var => left = word.number,
                 Kind::Name | Kind::NameInit if left > 0 => {
