@@ -82,9 +82,7 @@ impl Shape {
         let left = length.saturating_sub(self.beginning(heap, 0)?.len());
         let count = left.checked_div(chunk.len()).unwrap_or(0);
         let mut script = self.beginning(heap, u32::try_from(count)?)?;
-        for _ in 0..count {
-            script.extend_from_slice(chunk.as_slice())?;
-        }
+        script.extend(iter::repeat_n(chunk.as_slice(), count).flatten().copied())?;
         Ok(script)
     }
 }

@@ -88,7 +88,7 @@ pub(crate) struct Lent {
 pub(crate) struct Job {
     pub(crate) heap: Global,
     pub(crate) host: Option<HostKind>,
-    // The names of entries and rows, each at its number.
+    // The names of entries and rows, each at its number. What they name is in lists of its own, which hosts are lent.
     pub(crate) entry_names: IndexSet<String>,
     pub(crate) row_names: IndexSet<String>,
     pub(crate) entries: Vec<SheetValue>,

@@ -1,5 +1,5 @@
 // A script as indented JavaScript-like text.
-ghost use Rattle.std.specs.Prelude.{◌<◌, ◌≤◌, length, OnOk, IfSome, OnSome};
+ghost use Rattle.std.specs.Prelude.{◌<◌, ◌≤◌, length, OnOk, OnSome};
 
 use crate::job::Job;
 use crate::told::{Expression, Variable};

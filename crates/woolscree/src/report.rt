@@ -73,12 +73,11 @@ where
 
     fn print_granted(&self) -> io::Result<()> {
         print!(self.rt; "granted names:")?;
-        for number in self.job.granted.iter().copied() {
-            if self.host.granted(number) {
-                match self.job.name_of(number) {
-                    Some(name) => print!(self.rt; " {name} ({number})")?,
-                    None => print!(self.rt; " {number}")?,
-                }
+        let granted = self.job.granted.iter().copied();
+        for number in granted.filter(|number| self.host.granted(*number)) {
+            match self.job.name_of(number) {
+                Some(name) => print!(self.rt; " {name} ({number})")?,
+                None => print!(self.rt; " {number}")?,
             }
         }
         println!(self.rt; "")

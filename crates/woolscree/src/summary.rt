@@ -31,6 +31,7 @@ impl Script<'_> {
     // The names of all Vars, in written order.
     fn print_hoisted(self, rt: &impl Print) -> io::Result<()> {
         print!(rt; "hoisted names:")?;
+        // How many names are left of the last Var: expressions may stand between them.
         let mut left: u32 = 0;
         for word in self.words {
             let word = Word::from(*word);
