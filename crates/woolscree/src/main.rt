@@ -3,7 +3,6 @@
 #![tactic(auto)]
 
 mod job;
-mod landing;
 mod line;
 mod pretty;
 mod problem;

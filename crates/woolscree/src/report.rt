@@ -2,7 +2,6 @@
 use crate::job::{HostKind, Job, Part};
 use crate::summary::Script;
 use crate::told::Expression;
-use crate::value::Shown;
 use calls::load::load;
 use faults::call::CallFault;
 use host::Host;
@@ -56,13 +55,13 @@ struct Report<'a, R, H> {
 
 impl<R: Print, H: Host> Report<'_, R, H>
 where
-    H::Value: Shown,
+    H::Value: Display,
 {
     fn print_row(&self, e: u32) -> io::Result<()> {
         let heap = self.job.heap;
         let text = Expression(self.job, e).to_string(heap)?;
         let value = match self.host.value(e) {
-            Some(value) => value.shown(heap)?,
+            Some(value) => value.to_string(heap)?,
             None => String::from_str(heap, "unknown")?,
         };
         let truth = self.host.truth(e).map_or("unknown", yes_or_no);

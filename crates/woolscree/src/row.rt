@@ -1,9 +1,10 @@
 // The rows of a job, by their readable names.
 use crate::job::{HostKind, Job, number_of, read_number};
-use crate::landing::{Row, SheetRow};
 use crate::problem::Problem;
+use hosts::row_word::join;
 use indexmap::IndexSet;
-use words::word::NUMBER_LIMIT;
+use rows::row::Row;
+use sheet::sheet_row::SheetRow;
 
 // What a word names: its number in the list, or the number that it is.
 fn read_operand(names: &IndexSet<String>, word: &str) -> Result<u32, Problem> {
@@ -24,15 +25,6 @@ fn read_plain_row(words: &[&str]) -> Result<Row, Problem> {
     }
 }
 
-// A row whose kind is written out as a number.
-fn read_any_row(kind: &str, number: &str) -> Result<u32, Problem> {
-    let kind = read_number(kind)?;
-    let number = read_number(number)?;
-    kind.checked_mul(NUMBER_LIMIT)
-        .and_then(|row| row.checked_add(number))
-        .ok_or(Problem::BadNumber)
-}
-
 impl Job {
     fn read_sheet_row(&self, words: &[&str]) -> Result<SheetRow, Problem> {
         let entry = |word| read_operand(&self.entry_names, word);
@@ -49,12 +41,10 @@ impl Job {
 
     // The word of a row, from the words after its name.
     pub(crate) fn read_row(&self, host: HostKind, words: &[&str]) -> Result<u32, Problem> {
-        if let ["word", kind, number] = words {
-            return read_any_row(kind, number);
-        }
-        let written = match host {
-            HostKind::Rows => u32::try_from(read_plain_row(words)?),
-            HostKind::Sheet => u32::try_from(self.read_sheet_row(words)?),
+        let written = match (words, host) {
+            (["word", kind, number], _) => join(read_number(kind)?, read_number(number)?),
+            (_, HostKind::Rows) => u32::try_from(read_plain_row(words)?),
+            (_, HostKind::Sheet) => u32::try_from(self.read_sheet_row(words)?),
         };
         written.map_err(|_| Problem::BadNumber)
     }

@@ -1,7 +1,7 @@
 // What a job's rows and names are called, as a reader of the script would write them.
 use crate::job::{HostKind, Job};
-use crate::landing::{Row, SheetRow};
-use crate::value::Shown;
+use rows::row::Row;
+use sheet::sheet_row::SheetRow;
 use std::fmt;
 
 // A name of the script: what a `name` line calls it, or its number.
@@ -48,10 +48,7 @@ impl fmt::Display for Entry<'_> {
     fn fmt<W: fmt::Write>(&self, f: &mut fmt::Formatter<W>) -> fmt::Result {
         let Entry(job, entry) = *self;
         match job.entries.get(entry as usize) {
-            Some(value) => {
-                let text = value.shown(job.heap).map_err(|_| fmt::Error)?;
-                f.write_str(text.as_str())
-            }
+            Some(value) => write!(f, "{value}"),
             None => write!(f, "entry {entry}"),
         }
     }
