@@ -9,7 +9,6 @@ use refusals::host::HostFault;
 use refusals::refusal::Refusal;
 use rows::Rows;
 use sheet::Sheet;
-use sheet::literals::Literals;
 use std::alloc::{AllocError, Global};
 use std::fmt::Display;
 use std::{io, iter};
@@ -129,21 +128,16 @@ where
 }
 
 fn print_rows(rt: &impl Print, job: &Job) -> Result<(), Fault> {
-    let mut host = Rows::least();
-    host.make(job.rows.as_slice(), job.granted.as_slice())?;
-    let host = &host;
+    let host = &Rows::new(job.rows.as_slice(), job.granted.as_slice())?;
     Report { rt, job, host }.print("row")
 }
 
 fn print_sheet(rt: &impl Print, job: &Job) -> Result<(), Fault> {
-    let literals = Literals::new();
-    let mut host = Sheet::least(&literals);
-    host.make(
+    let host = &Sheet::new(
         job.rows.as_slice(),
         job.entries.as_slice(),
         job.granted.as_slice(),
     )?;
-    let host = &host;
     Report { rt, job, host }.print("sheet")
 }
 
