@@ -5,7 +5,7 @@
 
 mod shape;
 
-use calls::load::load;
+use calls::load::{WORKING_SHARE, load};
 use rows::Rows;
 use shape::Shape;
 use std::env;
@@ -16,8 +16,6 @@ const TIME: &str = "--time";
 const SHAPES: [Shape; 4] = [Shape::Flat, Shape::Deep, Shape::Labels, Shape::Jumps];
 
 const LENGTHS: [usize; 3] = [1_000, 4_000, 16_000];
-
-const WORKING_SHARE: usize = 4;
 
 // How many loads are timed together.
 const ROUNDS: u64 = 200;

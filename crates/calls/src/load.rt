@@ -11,7 +11,7 @@ use scan::weigh;
 use words::word::MAX_WORDS;
 
 // How many working words there must be for each word used, and how many labels to drop there may be.
-const WORKING_SHARE: usize = 4;
+pub const WORKING_SHARE: usize = 4;
 
 const MOST_LABELS: usize = 16;
 

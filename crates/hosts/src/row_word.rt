@@ -1,9 +1,11 @@
 // Words of rows, for both hosts.
-ghost use Rattle.std.specs.Prelude.{◌≡◌, ℕ, ◌^◌, ◌<◌, Bool, Ok};
+ghost use Rattle.std.specs.Prelude.{◌≡◌, ℕ, ◌^◌, ◌<◌, Bool, Some, Ok, codes};
 ghost use Rattle.hosts.specs.RowWord.{answer_of, count_fault_lem, first_bad, joined, kind_of, number_of};
 ghost use Rattle.hosts.specs.Rows.{ReadsRow, Tells};
 
 use refusals::host::HostFault;
+use std::error::Error;
+use std::fmt;
 use words::word::NUMBER_LIMIT;
 
 // The words of kind 1 with the numbers 0 and 1, which are rows 0 and 1 of the least hosts.
@@ -30,6 +32,26 @@ pub struct NoRow(pub u32);
 // A kind or a number has no room in a word.
 #[derive(Clone, Copy, PartialEq, Eq, Debug)]
 pub struct NoWord;
+
+impl fmt::Display for NoRow {
+    ghost output = { λ _. Some (codes "the word stands for no row of this host") };
+
+    fn fmt<W: fmt::Write>(&self, f: &mut fmt::Formatter<W>) -> fmt::Result {
+        f.write_str("the word stands for no row of this host")
+    }
+}
+
+impl Error for NoRow {}
+
+impl fmt::Display for NoWord {
+    ghost output = { λ _. Some (codes "a number has no room in a word") };
+
+    fn fmt<W: fmt::Write>(&self, f: &mut fmt::Formatter<W>) -> fmt::Result {
+        f.write_str("a number has no room in a word")
+    }
+}
+
+impl Error for NoWord {}
 
 // The word of a kind and a number.
 pub fn join(kind: u32, number: u32) -> Result<u32, NoWord>

@@ -2,7 +2,7 @@
 use crate::job::{HostKind, Job, Part};
 use crate::summary::Script;
 use crate::told::Expression;
-use calls::load::load;
+use calls::load::{WORKING_SHARE, load};
 use faults::call::CallFault;
 use host::Host;
 use refusals::host::HostFault;
@@ -26,9 +26,6 @@ enum Fault {
     #[error(transparent)]
     Memory(#[from(alloc)] AllocError),
 }
-
-// How many working words a script needs for each word used.
-const WORKING_SHARE: usize = 4;
 
 fn yes_or_no(truth: bool) -> &'static str {
     if truth { "yes" } else { "no" }

@@ -1,4 +1,4 @@
-// Values of the sheet host, as a job writes them.
+// Values of the sheet host, as a job writes them. Functions, no `FromStr`: the type is another crate's.
 use crate::problem::Problem;
 use values::sheet_value::SheetValue;
 use values::text::Text;

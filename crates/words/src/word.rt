@@ -1,6 +1,9 @@
 // Script words: the top 5 bits are a kind, the low 27 a number.
-ghost use Rattle.std.specs.Prelude.{◌≡◌, ℕ, true, Some, Ok, Decides};
+ghost use Rattle.std.specs.Prelude.{◌≡◌, ℕ, true, Some, Ok, Decides, codes};
 ghost use Rattle.words.specs.Words.{kind_of, code, from_to, is_listed, read_word, write_word, written};
+
+use std::error::Error;
+use std::fmt;
 
 // What a word is. Unlisted stands for the kinds 0 and 28 to 31, which no script has.
 #[derive(Clone, Copy, Debug, PartialEq, Eq)]
@@ -47,6 +50,16 @@ pub struct Word {
 pub struct Unwritable {
     pub word: Word,
 }
+
+impl fmt::Display for Unwritable {
+    ghost output = { λ _. Some (codes "no word has this kind and this number") };
+
+    fn fmt<W: fmt::Write>(&self, f: &mut fmt::Formatter<W>) -> fmt::Result {
+        f.write_str("no word has this kind and this number")
+    }
+}
+
+impl Error for Unwritable {}
 
 // A word's number is below this, 2 to the 27th.
 pub const NUMBER_LIMIT: u32 = 0x800_0000;
