@@ -126,15 +126,19 @@ impl fmt::Display for CallFault {
     ghost output = { λ f. Some (call_fault_text f) };
 
     fn fmt<W: fmt::Write>(&self, f: &mut fmt::Formatter<W>) -> fmt::Result {
-        f.write_str(match self {
-            CallFault::Used(_) => "the used length is 0 or above the space",
-            CallFault::TooLong(_) => "a script has at most 16,000 words",
-            CallFault::WorkingWords(_) => "there must be four working words for each word used",
-            CallFault::Labels(_) => "at most 16 labels can be dropped",
-            CallFault::Tree(tree) => tree.text(),
-            CallFault::NoSuchPlace(_) => "the script has no statement at this place",
-            CallFault::NoAlternate(_) => "a stub is due for an alternate that is not there",
-        })
+        match self {
+            CallFault::Used(_) => f.write_str("the used length is 0 or above the space"),
+            CallFault::TooLong(_) => f.write_str("a script has at most 16,000 words"),
+            CallFault::WorkingWords(_) => {
+                f.write_str("there must be four working words for each word used")
+            }
+            CallFault::Labels(_) => f.write_str("at most 16 labels can be dropped"),
+            CallFault::Tree(tree) => write!(f, "{tree}"),
+            CallFault::NoSuchPlace(_) => f.write_str("the script has no statement at this place"),
+            CallFault::NoAlternate(_) => {
+                f.write_str("a stub is due for an alternate that is not there")
+            }
+        }
     }
 }
 

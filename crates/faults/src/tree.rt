@@ -1,9 +1,12 @@
 // What the checker finds wrong: a fault of the reader inside a fault of the tree.
-ghost use Rattle.std.specs.Prelude.{◌≡◌};
+ghost use Rattle.std.specs.Prelude.{◌≡◌, Some};
 ghost use Rattle.faults.specs.declared.tree.TreeFault.TheVariants.{Reader};
 ghost use Rattle.faults.specs.declared.call.CallFault.TheVariants.{Tree};
 ghost use Rattle.faults.specs.Refusals.{place_of};
 ghost use Rattle.faults.specs.Texts.{tree_fault_text, reader_fault_text};
+
+use std::error::Error;
+use std::fmt;
 
 // What the reader of words finds wrong, and at which word.
 #[derive(Clone, Copy, PartialEq, Eq, Debug)]
@@ -45,15 +48,6 @@ impl ReaderFault {
             ReaderFault::WordDue(word) | ReaderFault::WordsLeft(word) => word,
         }
     }
-
-    fn text(&self) -> &'static str
-        ensures { result.now ≡ reader_fault_text self.now }
-    {
-        match self {
-            ReaderFault::WordDue(_) => "a word is due here, and none is left",
-            ReaderFault::WordsLeft(_) => "the script has ended, and words are left over",
-        }
-    }
 }
 
 impl TreeFault {
@@ -69,17 +63,37 @@ impl TreeFault {
             | TreeFault::Jump(word) => word,
         }
     }
+}
 
-    pub(crate) fn text(&self) -> &'static str
-        ensures { result.now ≡ tree_fault_text self.now }
-    {
+impl fmt::Display for ReaderFault {
+    ghost output = { λ f. Some (reader_fault_text f) };
+
+    fn fmt<W: fmt::Write>(&self, f: &mut fmt::Formatter<W>) -> fmt::Result {
+        f.write_str(match self {
+            ReaderFault::WordDue(_) => "a word is due here, and none is left",
+            ReaderFault::WordsLeft(_) => "the script has ended, and words are left over",
+        })
+    }
+}
+
+impl Error for ReaderFault {}
+
+impl fmt::Display for TreeFault {
+    ghost output = { λ f. Some (tree_fault_text f) };
+
+    fn fmt<W: fmt::Write>(&self, f: &mut fmt::Formatter<W>) -> fmt::Result {
         match self {
-            TreeFault::Reader(reader) => reader.text(),
-            TreeFault::Format(_) => "a word of this kind and number may not stand here",
-            TreeFault::Depth(_) => "more than 100 statements are around this one",
-            TreeFault::Expression(_) => "the host has no such expression",
-            TreeFault::Jump(_) =>
-                "the jump has no target around it, or the label stands inside itself",
+            TreeFault::Reader(reader) => write!(f, "{reader}"),
+            TreeFault::Format(_) => {
+                f.write_str("a word of this kind and number may not stand here")
+            }
+            TreeFault::Depth(_) => f.write_str("more than 100 statements are around this one"),
+            TreeFault::Expression(_) => f.write_str("the host has no such expression"),
+            TreeFault::Jump(_) => {
+                f.write_str("the jump has no target around it, or the label stands inside itself")
+            }
         }
     }
 }
+
+impl Error for TreeFault {}

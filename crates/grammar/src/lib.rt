@@ -92,7 +92,7 @@ pub struct Part {
     pub surroundings: Surroundings,
 }
 
-// The parts of a word, in written order.
+// The parts of a word, in written order. Four fields, no array: definitions of other crates name each.
 #[derive(Clone, Copy)]
 pub struct Parts {
     pub first: Part,

@@ -26,6 +26,8 @@ struct Page {
     indent: usize,
 }
 
+// Whether a number is a sum with this part in it. `grammar::has` tells how many of a part there are, and asks that the
+// part is not 0.
 fn has(number: u32, part: u32) -> bool {
     number & part != 0
 }
