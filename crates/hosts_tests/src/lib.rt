@@ -7,7 +7,11 @@ ghost use Rattle.sheet.specs.SheetModel.{largest_answer_lem};
 ghost use Rattle.hosts_tests.specs.Examples.{Examples};
 
 #[cfg(test)]
+use host::Host;
+#[cfg(test)]
 use refusals::host::HostFault;
+#[cfg(test)]
+use std::process::Abort;
 
 #[cfg(test)]
 mod row_host;
@@ -43,3 +47,12 @@ const COUNTS: [(usize, Result<(), HostFault>, u32); 5] = [
     (2, Ok(()), 2),
     (4096, Ok(()), 4096),
 ];
+
+// That a host grants these names, and not another.
+#[cfg(test)]
+fn expect_granted(rt: &impl Abort, host: &impl Host, granted: &[u32], other: u32) {
+    for name in granted {
+        assert!(rt; host.granted(*name));
+    }
+    assert!(rt; !host.granted(other));
+}

@@ -1,5 +1,5 @@
 // The row host.
-use crate::{COUNTS, word};
+use crate::{COUNTS, expect_granted, word};
 use host::Host;
 use refusals::host::HostFault;
 use refusals::refusal::{Layer, Refusal};
@@ -29,6 +29,8 @@ fn row_counts(rt: HostRuntime) {
         let (made, fresh) = make(tried, &[]);
         assert_eq!(rt; made, answer);
         assert_eq!(rt; kept.make(tried, &[]), answer);
+        let new = Rows::new(tried, &[]).map(|host| host.count());
+        assert_eq!(rt; new, answer.map(|()| count));
         for host in [&fresh, &kept] {
             assert_eq!(rt; host.count(), count);
             assert!(rt; host.value(count.saturating_sub(1)).is_some());
@@ -124,9 +126,7 @@ fn granted_names(rt: HostRuntime) {
     let mut names = [7; 5000];
     names[4999] = u32::MAX;
     let (_, host) = make(&SAMPLE, &names);
-    assert!(rt; host.granted(7));
-    assert!(rt; host.granted(u32::MAX));
-    assert!(rt; !host.granted(8));
+    expect_granted(&rt, &host, &[7, u32::MAX], 8);
     let (_, none) = make(&SAMPLE, &[]);
-    assert!(rt; !none.granted(7));
+    expect_granted(&rt, &none, &[], 7);
 }

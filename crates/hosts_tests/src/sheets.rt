@@ -1,5 +1,5 @@
 // The sheet host.
-use crate::{COUNTS, word};
+use crate::{COUNTS, expect_granted, word};
 use host::Host;
 use refusals::host::HostFault;
 use sheet::Sheet;
@@ -47,6 +47,8 @@ fn row_counts(rt: HostRuntime) {
         let (made, host) = make(&literals, tried, &ENTRIES, &[]);
         assert_eq!(rt; made, answer);
         assert_eq!(rt; host.count(), count);
+        let new = Sheet::new(tried, &ENTRIES, &[]).map(|host| host.count());
+        assert_eq!(rt; new, answer.map(|()| count));
         let last = count.saturating_sub(1);
         assert_eq!(rt; host.effects(last), count > 2);
         assert_eq!(rt; host.value(last).is_none(), count > 2);
@@ -231,9 +233,8 @@ fn granted_names(rt: HostRuntime) {
     names[4999] = 9;
     let rows = [word(1, 0), word(1, 1)];
     let (_, none) = make(&literals, &rows, &ENTRIES, &[]);
-    assert!(rt; !none.granted(3));
+    expect_granted(&rt, &none, &[], 3);
     let (made, host) = make(&literals, &rows, &ENTRIES, &names);
     assert_eq!(rt; made, Ok(()));
-    assert!(rt; host.granted(9));
-    assert!(rt; !host.granted(8));
+    expect_granted(&rt, &host, &[9], 8);
 }
