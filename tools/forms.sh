@@ -17,7 +17,7 @@ show '1 arms that ? or a method of Option or Result says' '(None => None|None =>
 printf '\n2 names of functions that stand more than once: %s\n' "$(grep -rhoE 'fn [a-z_0-9]+' --include='*.rt' */src | sort | uniq -d | wc -l)"
 grep -rhoE 'fn [a-z_0-9]+' --include='*.rt' */src | sort | uniq -c | awk '$1 > 1 { print $1, $3 }'
 show '2 constants that stand more than once' 'const (NUMBER_LIMIT|WORKING_SHARE|MARK|OPERANDS|OPERAND_LIMIT)\b'
-show '3 loops that count or step by hand' 'for [a-z_0-9]+ in \(?[0-9]+(u32|usize)?\.\.(\w|\.)*(len\(\)|[0-9](usize|u32)?|length|count)\b|while |\b\w+ (\+=|-=) 1;|= \w+\.(saturating|wrapping)_add\(1\)'
+show '3 loops that count or step by hand' 'for [a-z_0-9]+ in \(?[0-9]+(u32|usize)?\.\.(\w|\.)*(len\(\)|[0-9](usize|u32)?|length|count)[ )]|while |\b\w+ (\+=|-=) 1;|= \w+\.(saturating|wrapping)_add\(1\)'
 show '4 equality, conversion and printing by hand' 'impl PartialEq|fn (equals|code|of|read|write|decode|refusal|shown|shown_text|text|name|layer_name|truth_name|host_reason|call_reason|look_up|read_pending|read_value)\b'
 show '5 clauses on what a stack is lent, its room, and depths' 'ensures (lenders?|rooms?) |requires \{? ?(room|spot|at|rooms|sound|labels|iterations)?'
 show '5 parameters that travel together' '\(?(rows: &.*entries: &|rt: &HostRuntime, job: &Job|heap: Global, job: &Job|frames: &mut Stack<Frame>)'

@@ -307,7 +307,7 @@ impl Job {
         }
     }
 
-    // Reads a job, or says which line is wrong.
+    // Reads a job, or says which line is wrong. No `FromStr`, since it takes the allocator.
     pub(crate) fn read(heap: Global, text: &str) -> Result<Job, JobFault> {
         let mut job = Job::new(heap);
         each_line(text, |line| job.gather(line))?;

@@ -29,6 +29,7 @@ fn cut(line: &str) -> Result<(&str, Option<&str>), Problem> {
 }
 
 impl<'a> Line<'a> {
+    // No `FromStr`, since it takes the allocator.
     pub(crate) fn read(heap: Global, line: &'a str) -> Result<Line<'a>, LineFault> {
         let (before, text) = cut(line)?;
         let words = before.split_whitespace().collect(heap)?;
