@@ -10,7 +10,7 @@ const SAMPLE: [u32; 7] = [
     134217728, 134217729, 134217732, 268435461, 402653190, 536870919, 671088648,
 ];
 
-// The least row host, and in its place the host of these rows and granted names.
+// The least row host, and in its place the host of these rows and granted names: what `make` said, and what it left.
 fn make<'a>(rows: &'a [u32], names: &'a [u32]) -> (Result<(), HostFault>, Rows<'a>) {
     let mut host = Rows::least();
     let made = host.make(rows, names);

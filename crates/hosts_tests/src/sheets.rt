@@ -1,4 +1,4 @@
-// The sheet host.
+// The sheet host. Its tests have the names of the row host's where they are about the same, with other rows and answers.
 use crate::{COUNTS, expect_granted, word};
 use host::Host;
 use refusals::host::HostFault;
@@ -14,7 +14,8 @@ const ENTRIES: [SheetValue; 4] = [
     SheetValue::NotANumber,
 ];
 
-// The least sheet, and in its place the sheet of these rows, entries and granted names.
+// The least sheet, and in its place the sheet of these rows, entries and granted names: what `make` said, and what it
+// left.
 fn make<'a>(
     literals: &'a Literals,
     rows: &'a [u32],

@@ -67,7 +67,8 @@ impl<'a> Rows<'a> {
         Ok(Rows { rows, names })
     }
 
-    // Makes the host of these rows and granted names in place of this one, which a refusal leaves as it was.
+    // Makes the host of these rows and granted names in place of this one, which a refusal leaves as it was. Each host
+    // has its own, since they are made of different lists.
     pub fn make(&mut self, rows: &'a [u32], names: &'a [u32]) -> Result<(), HostFault>
         ensures answer { result ≡ answer_of (rows_refused rows.now) }
         ensures made { is_some (rows_refused rows.now) ≡ false → (self.new.rows.now ≡ rows.now) × (self.new.names.now ≡ names.now) }

@@ -20,7 +20,7 @@ pub enum SheetRow {
     Command,
 }
 
-// The kinds of the words of rows.
+// The kinds of the words of rows: a word holds a number, and these name it.
 const LITERAL: u32 = 1;
 
 const NAMED: u32 = 2;

@@ -124,6 +124,7 @@ where
     }
 }
 
+// The two hosts are made of different lists; what is printed of them is one function.
 fn print_rows(rt: &impl Print, job: &Job) -> Result<(), Fault> {
     let host = &Rows::new(job.rows.as_slice(), job.granted.as_slice())?;
     Report { rt, job, host }.print("row")

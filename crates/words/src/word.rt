@@ -5,7 +5,8 @@ ghost use Rattle.words.specs.Words.{kind_of, code, from_to, is_listed, read_word
 use std::error::Error;
 use std::fmt;
 
-// What a word is. Unlisted stands for the kinds 0 and 28 to 31, which no script has.
+// What a word is. Unlisted stands for the kinds 0 and 28 to 31, which no script has: a case, no Option, since reading a
+// word cannot fail.
 #[derive(Clone, Copy, Debug, PartialEq, Eq)]
 pub enum Kind {
     Unlisted,
