@@ -24,4 +24,4 @@ show '5 parameters that travel together' '\(?(rows: &.*entries: &|rt: &HostRunti
 show '6 lengths beside buffers, parallel lists, lists searched by hand' 'len: usize|_names: Vec|entries: Vec|rows: Vec|names: Vec|for (name|\(name, found\)|\(i, element\)) in|(first|second|third|fourth): Part,$'
 show '7 switches on a step' 'enum (Item|Operand|Shape)\b|static [A-Z_]+: \[Item|static [A-Z_]+: \[\(&str'
 show '8 functions that only carry a proof' 'fn keep_'
-printf '\n8 answers: %s in %s files\n' "$(cat */proofs/*/Answers.antt */proofs/*/*/Answers.antt */proofs/*/*/*/Answers.antt 2>/dev/null | grep -cE '^(pub )?[a-z_][A-Za-z0-9_-]* (g )?c .*=|^(pub )?[a-z_][A-Za-z0-9_-]* (g )?c =')" "$(find . -path '*/proofs/*' -name Answers.antt | wc -l)"
+printf '\n8 answers: %s in %s files\n' "$(cat */proofs/*/Answers.antt */proofs/*/*/Answers.antt */proofs/*/*/*/Answers.antt 2>/dev/null | grep -cE '^(pub )?[a-z_][A-Za-z0-9_-]* (g )?c .*=|^(pub )?[a-z_][A-Za-z0-9_-]* (g )?c =')" "$(find . -path '*/proofs/*' -name Answers.antt -not -path '*/out/*' | wc -l)"

@@ -1,5 +1,4 @@
 // Scripts of several shapes, each as long as asked or a few words shorter.
-use anyhow::anyhow;
 use std::alloc::Global;
 use std::{fmt, iter};
 use words::word::{Kind, Word};
@@ -31,7 +30,7 @@ impl fmt::Display for Shape {
 }
 
 fn word(kind: Kind, number: u32) -> anyhow::Result<u32> {
-    u32::try_from(Word { kind, number }).map_err(|fault| anyhow!("{fault:?}"))
+    Ok(u32::try_from(Word { kind, number })?)
 }
 
 // Labels inside one another.

@@ -5,8 +5,6 @@ use std::process::Abort;
 use std::test::Fail;
 use words::word::Kind;
 
-const EMPTY: (Kind, u32) = (Kind::Empty, 0);
-
 // How many words are used, how many working words and labels there are, and what load makes of it.
 type Case = (usize, usize, usize, Expected);
 

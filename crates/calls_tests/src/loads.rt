@@ -31,6 +31,11 @@ pub(crate) struct Lengths {
     pub(crate) labels: usize,
 }
 
+pub(crate) const EMPTY: (Kind, u32) = (Kind::Empty, 0);
+
+// How many working words are lent for each word used, written out, so that the tests do not follow the code.
+const WORKING_SHARE: usize = 4;
+
 // A word that no test's script has, to see which words were written.
 const MARK: u32 = 77;
 
@@ -87,7 +92,7 @@ pub(crate) fn expect_all(
     let used = script.len();
     let lengths = Lengths {
         used,
-        working: used.saturating_mul(4),
+        working: used.saturating_mul(WORKING_SHARE),
         labels: 0,
     };
     expect(rt, script, lengths, expected)

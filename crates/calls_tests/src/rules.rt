@@ -10,8 +10,6 @@ const BODY: (Kind, u32) = (Kind::Body, 1);
 
 const TEST: (Kind, u32) = (Kind::Expression, 1);
 
-const EMPTY: (Kind, u32) = (Kind::Empty, 0);
-
 const NAME: (Kind, u32) = (Kind::Name, 0);
 
 const UNLISTED: (Kind, u32) = (Kind::Unlisted, 0);

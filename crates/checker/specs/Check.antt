@@ -14,7 +14,6 @@ use Rattle.grammar.specs.declared.Part.{Part}
 use Rattle.words.specs.Words.{code}
 use Rattle.slices.specs.Among.{among}
 use Rattle.grammar.specs.Format.{admits, after, has_depth_lem, allows, parts}
-use Rattle.faults.specs.declared.tree.ReaderFault.{ReaderFault}
 use Rattle.faults.specs.declared.tree.ReaderFault.TheVariants.{WordDue, WordsLeft}
 use Rattle.faults.specs.declared.tree.TreeFault.{TreeFault}
 use Rattle.faults.specs.declared.tree.TreeFault.TheVariants.{Reader, Format, Depth, Expression, Jump}
@@ -142,15 +141,6 @@ next d w ds =
 abbrev pub and_then : Verdict → Verdict → Verdict
 and_then (Ok x) v = v
 and_then (Err f) v = Err f
-
--- a word that is due; no word where none is due
-abbrev pub first_word : List Word → ℕ → Result Word ReaderFault
-first_word [] at = Err (WordDue at)
-first_word (w ∷ ws) at = Ok w
-
-abbrev pub no_more : List Word → ℕ → Result (Unit {0}) ReaderFault
-no_more [] at = Ok tt
-no_more (w ∷ ws) at = Err (WordsLeft at)
 
 unfoldable pub check : ℕ → List Due → List Word → ℕ → Verdict
 check count [] [] at = Ok tt

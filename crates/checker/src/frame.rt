@@ -1,4 +1,9 @@
 // What the checker keeps of unfinished statements.
+ghost use Rattle.std.specs.Prelude.{◌≡◌};
+ghost use Rattle.checker.specs.Check.{is_loop as is_loop_kind};
+ghost use Rattle.bounded.specs.Stack.{room};
+
+use bounded::stack::Stack;
 use grammar::{Part, Surroundings, What};
 use words::word::{Kind, Word};
 
@@ -22,6 +27,21 @@ pub struct Frame {
     pub what: What,
     pub times: u32,
     pub spot: Spot,
+}
+
+// The labels open where a word stands, and those set on the loops around.
+#[derive(Drop)]
+pub(crate) struct Labels<'a> {
+    pub(crate) around: Stack<'a, u32>,
+    pub(crate) iterations: Stack<'a, u32>,
+    ghost around_room: { room around ≡ 102 },
+    ghost iterations_room: { room iterations ≡ 102 },
+}
+
+pub(crate) fn is_loop(word: Word) -> bool
+    ensures { result ≡ is_loop_kind word.kind }
+{
+    word.kind.is_between(Kind::For, Kind::Do)
 }
 
 // A script is one Body, with nothing around it.
@@ -53,7 +73,7 @@ impl Spot {
                 set: self.set + 1,
                 ..self
             }
-        } else if word.kind.is_between(Kind::For, Kind::Do) {
+        } else if is_loop(word) {
             Spot {
                 set: 0,
                 iterations: self.iterations + self.set,

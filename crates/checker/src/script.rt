@@ -8,7 +8,7 @@ ghost use Rattle.checker.specs.Check.{check as checked, check_script};
 ghost use Rattle.checker.specs.Laws.{Laws};
 ghost use Rattle.checker.specs.Held.{dues, onto, grown, opened, looped, Sound, Left, frames_of};
 
-use crate::frame::{Frame, START, Spot};
+use crate::frame::{Frame, Labels, START, Spot, is_loop};
 use crate::rules::judge;
 use bounded::stack::Stack;
 use faults::tree::{ReaderFault, TreeFault};
@@ -53,15 +53,6 @@ impl Due<'_> {
     }
 }
 
-// The labels open where a word stands, and those set on the loops around.
-#[derive(Drop)]
-struct Labels<'a> {
-    around: Stack<'a, u32>,
-    iterations: Stack<'a, u32>,
-    ghost around_room: { room around ≡ 102 },
-    ghost iterations_room: { room iterations ≡ 102 },
-}
-
 // Each of these on top, one after another.
 fn put_all(stack: &mut Stack<u32>, values: &[u32])
     requires { length (held stack.old) + length values.now ≤ room stack.old }
@@ -83,7 +74,7 @@ impl Labels<'_> {
     {
         if word.kind == Kind::Label {
             self.around.push(word.number).unwrap();
-        } else if word.kind.is_between(Kind::For, Kind::Do) {
+        } else if is_loop(word) {
             let open = self.around.as_slice();
             put_all(&mut self.iterations, &open[open.len() - frame.spot.set..]);
         }
@@ -107,14 +98,7 @@ fn step(
     let frame = due.frames.pop().ok_or(ReaderFault::WordsLeft(at))?;
     labels.around.truncate(frame.spot.labels);
     labels.iterations.truncate(frame.spot.iterations);
-    judge(
-        count,
-        labels.around.as_slice(),
-        labels.iterations.as_slice(),
-        frame,
-        word,
-        at,
-    )?;
+    judge(count, labels, frame, word, at)?;
     due.need(frame.rest(word));
     due.grow(word, frame.spot.within(word));
     labels.enter(frame, word);

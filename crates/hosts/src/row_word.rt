@@ -65,6 +65,14 @@ pub fn join(kind: u32, number: u32) -> Result<u32, NoWord>
     }
 }
 
+// The kind and the number of a word.
+pub fn split(word: u32) -> (u32, u32)
+    ensures kind { result.0 ≡ kind_of word }
+    ensures number { result.1 ≡ number_of word }
+{
+    (word / NUMBER_LIMIT, word % NUMBER_LIMIT)
+}
+
 // Refuses a number of rows that is not 2 to 4,096.
 pub fn check_count(rows: &[u32]) -> Result<(), HostFault>
     ensures { result ≡ answer_of (count_fault_lem rows.now) }

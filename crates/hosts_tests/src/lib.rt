@@ -28,7 +28,7 @@ pub fn largest_answer() -> i32
     i32::MAX
 }
 
-// How many bits a row word's number has.
+// How many bits a row word's number has, written out, so that the tests do not follow the code.
 #[cfg(test)]
 const NUMBER_BITS: u32 = 27;
 

@@ -1,4 +1,5 @@
-// The sheet host. Its tests have the names of the row host's where they are about the same, with other rows and answers.
+// The sheet host. Its tests have the names of the row host's where they are about the same, with other rows and
+// answers.
 use crate::{COUNTS, expect_granted, word};
 use host::Host;
 use refusals::host::HostFault;
@@ -155,6 +156,20 @@ fn first_rows(rt: HostRuntime) {
     }
 }
 
+// Of each expression of the sheet below: its truth, whether a value is known, effects, literal.
+const ANSWERS: [(Option<bool>, bool, bool, bool); 10] = [
+    (Some(false), true, false, true),
+    (Some(true), true, false, true),
+    (Some(false), true, false, false),
+    (None, false, true, false),
+    (Some(true), true, false, false),
+    (None, false, true, false),
+    (Some(true), true, false, false),
+    (None, false, true, false),
+    (Some(false), true, false, false),
+    (None, false, true, false),
+];
+
 // Literals, a name, a command, whether a name or a command is false, and comparisons.
 #[test]
 fn questions(rt: HostRuntime) {
@@ -172,20 +187,7 @@ fn questions(rt: HostRuntime) {
     ];
     let (made, host) = make(&literals, &rows, &ENTRIES, &[]);
     assert_eq!(rt; made, Ok(()));
-    // truth, whether a value is known, effects, literal
-    let table = [
-        (Some(false), true, false, true),
-        (Some(true), true, false, true),
-        (Some(false), true, false, false),
-        (None, false, true, false),
-        (Some(true), true, false, false),
-        (None, false, true, false),
-        (Some(true), true, false, false),
-        (None, false, true, false),
-        (Some(false), true, false, false),
-        (None, false, true, false),
-    ];
-    for (e, expected) in (0..).zip(table) {
+    for (e, expected) in (0..).zip(ANSWERS) {
         let answers = (
             host.truth(e),
             host.value(e).is_some(),

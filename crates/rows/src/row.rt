@@ -3,8 +3,7 @@ ghost use Rattle.hosts.specs.Rows.{ReadsWord, WritesRow};
 ghost use Rattle.rows.specs.Rows.{row_of};
 ghost use Rattle.rows.specs.RowWords.{word_of, number_in};
 
-use hosts::row_word::{NoRow, NoWord, join};
-use words::word::NUMBER_LIMIT;
+use hosts::row_word::{NoRow, NoWord, join, split};
 
 #[derive(Clone, Copy, Debug, PartialEq, Eq)]
 pub enum Row {
@@ -36,8 +35,8 @@ impl TryFrom<u32> for Row {
     ghost try_from_gives = { ReadsWord row_of word_of number_in };
 
     fn try_from(word: u32) -> Result<Row, NoRow> {
-        let number = word % NUMBER_LIMIT;
-        match word / NUMBER_LIMIT {
+        let (kind, number) = split(word);
+        match kind {
             LITERAL => Ok(Row::Literal(number)),
             NAMED_CONSTANT => Ok(Row::NamedConstant(number)),
             COMMAND => Ok(Row::Command(number)),

@@ -101,6 +101,7 @@ pub fn weigh(words: &[u32]) -> u32
 {
     let mut weight = 0;
     let mut rest = words;
+    // By what is left of the words, since an If looks at the word after it.
     while let [word, after @ ..] = rest {
         weight += first_weight(Word::from(*word), after);
         rest = after;
@@ -122,7 +123,7 @@ fn is_statement(declaration: bool, word: Word) -> bool
     !declaration && word.kind.is_between(Kind::Empty, Kind::Try)
 }
 
-// Whether a statement begins at a place of the words.
+// Whether a statement begins at an index of the words: it is the index that is asked about.
 fn begins_statement(words: &[u32], at: usize) -> bool
     ensures { result ≡ begins_at (map read_word words.now) at }
 {
@@ -136,7 +137,8 @@ fn begins_statement(words: &[u32], at: usize) -> bool
     is_statement(declares(Word::from(words[at - 1])), word)
 }
 
-// How many statements the words have.
+// How many statements the words have. The chain stands here and below, since no function can answer one today: its
+// closure has no name.
 pub fn statements(words: &[u32]) -> usize
     ensures value { result ≡ length (places_words (map read_word words.now)) }
     ensures tree { (ss : Statements) → map read_word words.now ≡ encode_body ss → result ≡ length (places_body ss) }

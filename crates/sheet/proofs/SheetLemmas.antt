@@ -236,9 +236,6 @@ not_negated : (o : Option Bool) → o ≡ option_map (negate_when false) o
 not_negated None = refl
 not_negated (Some t) = refl
 
-follow_self : (x : Expression) → Follows x x false
-follow_self x = record { truth = not_negated (known_truth x); effects = refl }
-
 -- the truth and the value that the questions answer
 pub differs : (t n : Bool) → not (beq t n) ≡ negate_when n t
 differs true true = refl

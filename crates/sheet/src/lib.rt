@@ -89,7 +89,7 @@ impl<'a> Sheet<'a> {
         Ok(())
     }
 
-    // The rows and the entries.
+    // The rows and the entries, which are fields apart, since public clauses name each.
     fn lists(&self) -> Lists<'a>
         ensures rows { result.rows.now ≡ self.now.rows.now }
         ensures entries { result.entries.now ≡ self.now.entries.now }

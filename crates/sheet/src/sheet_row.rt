@@ -3,7 +3,7 @@ ghost use Rattle.hosts.specs.Rows.{ReadsWord, WritesRow};
 ghost use Rattle.sheet.specs.SheetRows.{sheet_row_of};
 ghost use Rattle.sheet.specs.SheetWords.{sheet_word_of, sheet_number_in};
 
-use hosts::row_word::{NoRow, NoWord, join};
+use hosts::row_word::{NoRow, NoWord, join, split};
 use words::word::NUMBER_LIMIT;
 
 #[derive(Clone, Copy, Debug, PartialEq, Eq)]
@@ -43,8 +43,8 @@ impl TryFrom<u32> for SheetRow {
     ghost try_from_gives = { ReadsWord sheet_row_of sheet_word_of sheet_number_in };
 
     fn try_from(word: u32) -> Result<SheetRow, NoRow> {
-        let number = word % NUMBER_LIMIT;
-        match word / NUMBER_LIMIT {
+        let (kind, number) = split(word);
+        match kind {
             LITERAL => Ok(SheetRow::Literal(number)),
             NAMED => Ok(SheetRow::Named(number)),
             IS_FALSE => Ok(SheetRow::IsFalse(number)),

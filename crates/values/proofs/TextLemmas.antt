@@ -1,16 +1,14 @@
 -- Bytes of numbers and texts: one step, two halves, and that equal bytes are equal numbers.
-use Rattle.std.proofs.Common.{◌≡◌, ℕ, zero, suc, ◌+◌, ◌-◌, ◌*◌, ◌/◌, ◌%◌, ◌^◌, ◌<◌, ◌≤◌, Bool, true, false, ◌&&◌, eqb, List, [], ◌∷◌, ◌++◌, length, Some, None, sym, refl, ap, ◌∙◌, suc-add, one-mul, pow-suc, div-add-mod', zero-add, mul_right_comm, length-append, arith, lit<, eq-eqb, eqb-true, le-leb}
+use Rattle.std.proofs.Common.{◌≡◌, ℕ, zero, suc, ◌+◌, ◌*◌, ◌/◌, ◌%◌, ◌^◌, ◌<◌, ◌≤◌, Bool, true, false, ◌&&◌, eqb, List, [], ◌∷◌, ◌++◌, length, sym, refl, ap, ◌∙◌, suc-add, one-mul, pow-suc, div-add-mod', zero-add, mul_right_comm, length-append, arith, lit<, eq-eqb, eqb-true, le-leb}
 use native.Mathlib.Nat.{add-mul-mod_self_right, add-mul-div_right, pow-zero, pow-le-pow_right}
 use lib.Arith.{digits_div, digits_mod, digits_lt}
 use borrow.Author.Tests.{clash}
-use Rattle.std.specs.List.{slice_get}
-use Rattle.std.proofs.lemmas.Nat.{div_below, pow-add, shr-shr}
+use Rattle.std.proofs.lemmas.Nat.{div_below, pow-add}
 use Rattle.std.proofs.lemmas.Bool.{and_parts}
-use Rattle.std.proofs.lemmas.Option.{slice_get_past}
 use Rattle.values.specs.Bytes.{equal_lists}
 use Rattle.values.specs.Strict.{text, to_boolean}
 use Rattle.values.specs.declared.text.Text.{Text}
-use Rattle.values.specs.Bytes.{bytes_of, byte_at, byte_count, half_count, half_length, longest_text, join_halves, text_length}
+use Rattle.values.specs.Bytes.{bytes_of, byte_count, half_count, half_length, longest_text, join_halves, text_length}
 use Rattle.values.specs.SheetValues.{text_bytes}
 
 pub bytes_step : (k n b : ℕ) → b < byte_count → bytes_of (suc k) (n * byte_count + b) ≡ b ∷ bytes_of k n
@@ -48,30 +46,6 @@ bytes_halves zero k a b h =
 bytes_halves (suc j) k a b h =
     let r = bytes_halves j k (a / byte_count) b (below_step j a h) in
     rw (suc-add j k) (rw (part_mod j a b, part_div j a b) (ap (λ (l : List ℕ). a % byte_count ∷ l) r))
-
-pub nth_bytes : (k n i : ℕ) → i < k → slice_get (bytes_of k n) i ≡ Some (byte_at n i)
-nth_bytes zero n i h = absurd (omega arith)
-nth_bytes (suc k) n zero h = refl
-nth_bytes (suc k) n (suc i) h = nth_bytes k (n / byte_count) i (omega arith)
-
-pub byte_low : (j a b i : ℕ) → i < j → byte_at (a + byte_count ^ j * b) i ≡ byte_at a i
-byte_low zero a b i h = absurd (omega arith)
-byte_low (suc j) a b zero h = part_mod j a b
-byte_low (suc j) a b (suc i) h = rw (part_div j a b) (byte_low j (a / byte_count) b i (omega arith))
-
-pub byte_high : (j a b i : ℕ) → a < byte_count ^ j → byte_at (a + byte_count ^ j * b) (j + i) ≡ byte_at b i
-byte_high zero a b i h =
-    let z = below_zero a h in
-    let n : a + byte_count ^ zero * b ≡ b = rw (pow-zero byte_count) (rw (one-mul b) (omega arith)) in
-    rw (n, zero-add i)
-byte_high (suc j) a b i h = rw (suc-add j i) (ap (λ (n : ℕ). byte_at n (j + i)) (part_div j a b) ∙ byte_high j (a / byte_count) b i (below_step j a h))
-
--- the same byte, by a shift
-pub byte_shifted : (n i : ℕ) → n / 2 ^ (8 * i) % byte_count ≡ byte_at n i
-byte_shifted n zero = search arith
-byte_shifted n (suc i) =
-    let more : 8 + 8 * i ≡ 8 * suc i = omega arith in
-    ap (λ (k : ℕ). n / 2 ^ k % byte_count) (sym more) ∙ ap (λ (m : ℕ). m % byte_count) (sym (shr-shr n 8 (8 * i))) ∙ byte_shifted (n / byte_count) i
 
 pub same_number : (k m n : ℕ) → m < byte_count ^ k → n < byte_count ^ k → bytes_of k m ≡ bytes_of k n → m ≡ n
 same_number zero m n p q e = below_zero m p ∙ sym (below_zero n q)
@@ -141,18 +115,6 @@ equal_texts s t = by_test (same_fields s t) refl
 
 pub length_text : (t : Text) → length (text_bytes t) ≡ t.len
 length_text t = length_bytes t.len _
-
--- the bytes of a text, by its halves
-pub text_past : (t : Text) (i : ℕ) → t.len ≤ i → slice_get (text_bytes t) i ≡ None
-text_past t i p = let l = length_text t in slice_get_past (text_bytes t) i (omega arith)
-
-pub text_low : (t : Text) (i : ℕ) → i < t.len → i < half_length → slice_get (text_bytes t) i ≡ Some (byte_at t.low i)
-text_low t i p q = nth_bytes t.len _ i p ∙ ap (λ (b : ℕ). Some b) (byte_low half_length t.low t.high i q)
-
-pub text_high : (t : Text) (i : ℕ) → i < t.len → half_length ≤ i → slice_get (text_bytes t) i ≡ Some (byte_at t.high (i - half_length))
-text_high t i p q =
-    let place : i ≡ half_length + (i - half_length) = omega arith in
-    nth_bytes t.len _ i p ∙ ap (λ (b : ℕ). Some b) (ap (byte_at (join_halves t.low t.high)) place ∙ byte_high half_length t.low t.high (i - half_length) t.half)
 
 -- one turn of reading a number, from the last byte to the first
 pub number_fits : (n b k : ℕ) → k ≤ 7 → n < byte_count ^ k → b < byte_count → n * byte_count + b < half_count

@@ -28,11 +28,6 @@ abbrev pub bytes_of : ℕ → ℕ → List ℕ
 bytes_of zero n = []
 bytes_of (suc k) n = n % byte_count ∷ bytes_of k (n / byte_count)
 
--- the byte of a number at a place, the lowest at place 0
-abbrev pub byte_at : ℕ → ℕ → ℕ
-byte_at n zero = n % byte_count
-byte_at n (suc i) = byte_at (n / byte_count) i
-
 -- the number of two halves
 abbrev pub join_halves : ℕ → ℕ → ℕ
 join_halves low high = low + half_count * high

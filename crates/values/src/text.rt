@@ -7,7 +7,7 @@ use std::{fmt, str};
 pub mod bytes;
 
 // The first byte is the lowest of `low`, the ninth the lowest of `high`; bytes past the length are 0. Two numbers and a
-// length, no array: the format of values has it so.
+// length, no array, as docs/HOSTS.md has it.
 #[derive(Clone, Copy, PartialEq, Eq, Debug)]
 pub struct Text {
     low: u64,

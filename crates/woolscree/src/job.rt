@@ -300,8 +300,10 @@ impl Job {
         let line = Line::read(self.heap, text)?;
         let quoted = line.text;
         let words = line.words.as_slice();
+        if self.part == Part::InScript {
+            return self.read_script(words);
+        }
         match quoted {
-            _ if self.part == Part::InScript => self.read_script(words),
             Some(text) => self.add_text(words, text),
             None => self.read_words(words),
         }

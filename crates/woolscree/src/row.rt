@@ -1,7 +1,7 @@
 // The rows of a job, by their readable names.
 use crate::job::{HostKind, Job, number_of, read_number};
 use crate::problem::Problem;
-use hosts::row_word::join;
+use hosts::row_word::{NoRow, join, row_of_expression};
 use indexmap::IndexSet;
 use rows::row::Row;
 use sheet::sheet_row::SheetRow;
@@ -50,8 +50,7 @@ impl Job {
     }
 
     // The row at a number, where there is one.
-    pub(crate) fn row<R: TryFrom<u32, Error: Drop>>(&self, number: u32) -> Option<R> {
-        let word = self.rows.get(number as usize)?;
-        R::try_from(*word).ok()
+    pub(crate) fn row<R: TryFrom<u32, Error = NoRow>>(&self, number: u32) -> Option<R> {
+        row_of_expression(self.rows.as_slice(), number)
     }
 }

@@ -1,5 +1,5 @@
 -- Kinds and their numbers, both ways.
-use Rattle.std.proofs.Common.{◌≡◌, ℕ, zero, suc, ◌+◌, ◌*◌, ◌/◌, ◌%◌, ◌<◌, ◌≤◌, true, List, [], ◌∷◌, get_or, Some, refl, ap, ◌∙◌, ap₂, arith, ltb-true, lt-ltb}
+use Rattle.std.proofs.Common.{◌≡◌, ℕ, zero, suc, ◌+◌, ◌*◌, ◌/◌, ◌%◌, ◌<◌, true, List, [], ◌∷◌, get_or, Some, refl, ap, ◌∙◌, ap₂, arith, ltb-true, lt-ltb}
 use Rattle.words.specs.declared.word.Kind.{Kind}
 use Rattle.words.specs.declared.word.Kind.TheVariants.{Unlisted, Empty, Block, Expr, Var, Let, If, For, While, Do, Switch, Label, Break, BreakTo, Continue, ContinueTo, Return, Throw, Try, Body, Catch, CatchName, Case, Default, Expression, Sequence, Name, NameInit}
 use Rattle.std.proofs.lemmas.Bool.{cond-true}
@@ -51,36 +51,6 @@ kinds_numbered = (refl, (refl, (refl, (refl, (refl, (refl, (refl, (refl, (refl, 
 
 pub code_kind_of : (k : ℕ) → 0 < code (kind_of k) → code (kind_of k) ≡ k
 code_kind_of k h = omega (arith, numbered_code kinds 0 k kinds_numbered h)
-
-pub code_bound : (k : Kind) → code k ≤ 27
-code_bound Unlisted = omega arith
-code_bound Empty = omega arith
-code_bound Block = omega arith
-code_bound Expr = omega arith
-code_bound Var = omega arith
-code_bound Let = omega arith
-code_bound If = omega arith
-code_bound For = omega arith
-code_bound While = omega arith
-code_bound Do = omega arith
-code_bound Switch = omega arith
-code_bound Label = omega arith
-code_bound Break = omega arith
-code_bound BreakTo = omega arith
-code_bound Continue = omega arith
-code_bound ContinueTo = omega arith
-code_bound Return = omega arith
-code_bound Throw = omega arith
-code_bound Try = omega arith
-code_bound Body = omega arith
-code_bound Catch = omega arith
-code_bound CatchName = omega arith
-code_bound Case = omega arith
-code_bound Default = omega arith
-code_bound Expression = omega arith
-code_bound Sequence = omega arith
-code_bound Name = omega arith
-code_bound NameInit = omega arith
 
 -- a word of a listed kind, taken apart and put together
 pub written_back : (w : ℕ) → is_listed (read_word w).kind ≡ true → write_word (read_word w) ≡ Some w

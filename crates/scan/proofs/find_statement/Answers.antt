@@ -10,7 +10,7 @@ use Rattle.scan.proofs.find_statement.Goals as goal
 pub returns : goal.returns
 returns c =
     let xs = c.args.words.now in
-    let chain = nth_from_yields_List c.nth.result _ c.args.place c.nth.ensures.ran
+    let chain = nth_from_yields_List c.nth.result _ _ c.nth.ensures.ran
     (YieldsList-from_filter _ (begins_at (map read_word xs)) (YieldsList-from_range 0 (length xs) (length xs) (cc) (omega arith)) c.filter.ensures.closure (λ x r q k. search (rules, tests))) in
     let value = found c.nth.result ∙ chain ∙ ap (λ ps. slice_get ps c.args.place) (places_of_words xs) ∙ place_get (places_words (map read_word xs)) c.args.place in
     record { value = value; tree = λ ss e. value ∙ ap (λ ws. at_place c.args.place (places_words ws)) e ∙ ap (at_place c.args.place) (places_of_body ss) }

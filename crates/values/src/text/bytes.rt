@@ -2,7 +2,7 @@
 ghost use Rattle.std.specs.Prelude.{◌≡◌, ◌^◌, ◌<◌, ◌≤◌, length, take, if◌then◌else◌, Some, None};
 ghost use Rattle.std.specs.List.{slice_get};
 ghost use Rattle.std.specs.Option.{option_map};
-ghost use Rattle.values.specs.Bytes.{bytes_of, text_length, byte_at, byte_count, half_length};
+ghost use Rattle.values.specs.Bytes.{bytes_of, text_length, byte_count, half_length};
 ghost use Rattle.values.specs.SheetValues.{text_bytes};
 
 use crate::text::Text;
@@ -29,16 +29,6 @@ fn number_of(bytes: &[u8]) -> u64
         number = number * BYTE_COUNT + u64::from(*byte);
     }
     number
-}
-
-// The byte of half a text at a place, the lowest at place 0.
-#[tactic(auto, using(crate::proofs::TextLemmas::byte_shifted))]
-fn byte_at(number: u64, place: usize) -> u8
-    requires { place < half_length }
-    ensures { result ≡ byte_at number place }
-{
-    let rest = number >> (BYTE_BITS * place);
-    (rest % BYTE_COUNT) as u8
 }
 
 impl Text {
@@ -83,16 +73,10 @@ impl Text {
     }
 
     // The byte at this place, where there is one.
-    #[tactic(auto, using(crate::proofs::TextLemmas::text_past, crate::proofs::TextLemmas::text_low, crate::proofs::TextLemmas::text_high))]
     pub fn byte(&self, i: usize) -> Option<u8>
         ensures { result ≡ slice_get (text_bytes self.now) i }
     {
-        if i >= self.len {
-            None
-        } else if i < HALF_LENGTH {
-            Some(byte_at(self.low, i))
-        } else {
-            Some(byte_at(self.high, i - HALF_LENGTH))
-        }
+        let bytes = self.bytes();
+        bytes[..self.len].get(i).copied()
     }
 }

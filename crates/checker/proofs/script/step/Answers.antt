@@ -2,8 +2,7 @@ use Rattle.std.proofs.Common.{◌≡◌, sym, ap, ◌∙◌, ap₂}
 use Rattle.bounded.specs.Stack.{held}
 use Rattle.grammar.specs.Format.{parts}
 use Rattle.faults.specs.declared.tree.TreeFault.TheVariants.{Reader}
-use Rattle.checker.specs.Check.{judge}
-use Rattle.checker.specs.Held.{due_in, within_spot, grown, rest_frame, onto, frames_of}
+use Rattle.checker.specs.Held.{within_spot, grown, rest_frame, onto, frames_of}
 use Rattle.checker.proofs.Exits.{by_err, top_is, none_due, refused_step, left_step}
 use Rattle.checker.proofs.script.step.Goals as goal
 
@@ -16,8 +15,8 @@ pub returns-in_err-judge : goal.returns-in_err-judge
 returns-in_err-judge c = λ ws.
     let top = top_is c.args.due.now.frames c.pop.new.self c.pop.result _ c.in_ok-frame.frame c.pop.ensures.cases (sym c.ok_or.ensures.value ∙ c.in_ok-frame.was) in
     by_err c.from_residual-in_err-judge.result _ _ c.in_err-judge.field-0.0 c.from_residual-in_err-judge.ensures.1
-    (refused_step c.args.count c.in_ok-frame.frame _ _ (held c.args.labels.now.around) (held c.args.labels.now.iterations) c.as_slice.result.now c.as_slice-2.result.now
-    c.args.word ws c.args.at c.in_err-judge.field-0.0 top (c.as_slice.ensures ∙ c.truncate.ensures.held) (c.as_slice-2.ensures ∙ c.truncate-2.ensures.held) (sym c.judge.ensures ∙ c.in_err-judge.was))
+    (refused_step c.args.count c.in_ok-frame.frame _ _ (held c.args.labels.now.around) (held c.args.labels.now.iterations) (held c.truncate.new.self) (held c.truncate-2.new.self)
+    c.args.word ws c.args.at c.in_err-judge.field-0.0 top c.truncate.ensures.held c.truncate-2.ensures.held (sym c.judge.ensures ∙ c.in_err-judge.was))
 
 pub returns : goal.returns
 returns c = λ ws.
@@ -29,5 +28,5 @@ returns c = λ ws.
     c.grow.ensures ∙ ap₂ (grown (parts w)) c.within.ensures (c.need.ensures.frames ∙ ap (λ g. onto g fs) c.rest.ensures) in
     left_step c.args.count f _ fs _ (held c.args.labels.now.around) (held c.args.labels.now.iterations) (held c.truncate.new.self) (held c.truncate-2.new.self) _ _ w ws c.args.at top c.requires
     c.truncate.ensures.held c.truncate-2.ensures.held
-    (ap₂ (λ p q. judge c.args.count (due_in p q f) w c.args.at) (sym c.as_slice.ensures) (sym c.as_slice-2.ensures) ∙ sym c.judge.ensures ∙ c.in_ok-judge.was)
+    (sym c.judge.ensures ∙ c.in_ok-judge.was)
     grew c.enter.ensures.around c.enter.ensures.iterations
