@@ -1,8 +1,12 @@
 -- Kinds and their numbers, both ways.
-use Rattle.std.proofs.Common.{◌≡◌, ℕ, zero, suc, ◌+◌, ◌*◌, ◌/◌, ◌%◌, ◌<◌, true, List, [], ◌∷◌, get_or, Some, refl, ap, ◌∙◌, ap₂, arith, ltb-true, lt-ltb}
+use Rattle.std.proofs.Common.{◌≡◌, ℕ, zero, suc, ◌+◌, ◌*◌, ◌/◌, ◌%◌, ◌<◌, ◌≤◌, true, List, [], ◌∷◌, get_or, Some, refl, ap, ◌∙◌, ap₂, arith, ltb-true, lt-ltb}
 use Rattle.words.specs.declared.word.Kind.{Kind}
 use Rattle.words.specs.declared.word.Kind.TheVariants.{Unlisted, Empty, Block, Expr, Var, Let, If, For, While, Do, Switch, Label, Break, BreakTo, Continue, ContinueTo, Return, Throw, Try, Body, Catch, CatchName, Case, Default, Expression, Sequence, Name, NameInit}
 use Rattle.std.proofs.lemmas.Bool.{cond-true}
+use Rattle.std.specs.Slice.{IsItemAt}
+use Rattle.std.specs.Option.{option_copied, unwrap_or}
+use Rattle.std.specs.Borrow.{Bor}
+use Rattle.std.specs.Prelude.{Option}
 use Rattle.words.specs.declared.word.Word.{Word}
 use Rattle.words.specs.Words.{number_limit, kinds, kind_of, code, is_listed, word, read_word, write_word}
 
@@ -52,6 +56,36 @@ kinds_numbered = (refl, (refl, (refl, (refl, (refl, (refl, (refl, (refl, (refl, 
 pub code_kind_of : (k : ℕ) → 0 < code (kind_of k) → code (kind_of k) ≡ k
 code_kind_of k h = omega (arith, numbered_code kinds 0 k kinds_numbered h)
 
+pub code_bound : (k : Kind) → code k ≤ 27
+code_bound Unlisted = omega arith
+code_bound Empty = omega arith
+code_bound Block = omega arith
+code_bound Expr = omega arith
+code_bound Var = omega arith
+code_bound Let = omega arith
+code_bound If = omega arith
+code_bound For = omega arith
+code_bound While = omega arith
+code_bound Do = omega arith
+code_bound Switch = omega arith
+code_bound Label = omega arith
+code_bound Break = omega arith
+code_bound BreakTo = omega arith
+code_bound Continue = omega arith
+code_bound ContinueTo = omega arith
+code_bound Return = omega arith
+code_bound Throw = omega arith
+code_bound Try = omega arith
+code_bound Body = omega arith
+code_bound Catch = omega arith
+code_bound CatchName = omega arith
+code_bound Case = omega arith
+code_bound Default = omega arith
+code_bound Expression = omega arith
+code_bound Sequence = omega arith
+code_bound Name = omega arith
+code_bound NameInit = omega arith
+
 -- a word of a listed kind, taken apart and put together
 pub written_back : (w : ℕ) → is_listed (read_word w).kind ≡ true → write_word (read_word w) ≡ Some w
 written_back w h =
@@ -69,3 +103,7 @@ reads_back w h =
     let d : (k * number_limit + w.number) / number_limit ≡ k = omega arith in
     let r : (k * number_limit + w.number) % number_limit ≡ w.number = omega arith in
     ap₂ (λ a b. word (kind_of a) b) d r ∙ ap (λ a. word a w.number) (kind_of_code w.kind)
+
+-- what the list of kinds has at a number, or the unlisted kind past its end
+pub kind_found : (n : ℕ) (o : Option (Bor Kind)) → IsItemAt kinds n o → unwrap_or (option_copied o) Unlisted ≡ kind_of n
+kind_found n o h = h.4 (omega arith) Unlisted

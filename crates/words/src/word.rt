@@ -1,13 +1,16 @@
 // Script words: the top 5 bits are a kind, the low 27 a number.
-ghost use Rattle.std.specs.Prelude.{◌≡◌, ℕ, true, Some, Ok, Decides, codes};
+ghost use Rattle.std.specs.Prelude.{◌≡◌, ◌==◌, ℕ, true, Some, Ok, Decides, codes};
 ghost use Rattle.words.specs.Words.{kind_of, code, from_to, is_listed, read_word, write_word, written};
+ghost use Rattle.std.specs.Cmp.Rules.{comparing};
+ghost use Rattle.std.proofs.Common.{rules};
+ghost use Rattle.std.specs.Ordering.{on};
 
 use std::error::Error;
 use std::fmt;
 
 // What a word is. Unlisted stands for the kinds 0 and 28 to 31, which no script has: a case, no Option, since reading a
 // word cannot fail.
-#[derive(Clone, Copy, Debug, PartialEq, Eq)]
+#[derive(Clone, Copy, Debug)]
 pub enum Kind {
     Unlisted,
     Empty,
@@ -113,13 +116,32 @@ impl From<Kind> for u32 {
 impl From<u32> for Kind {
     ghost from_gives = { λ n k. k ≡ kind_of n };
 
+    #[tactic(auto, using(crate::proofs::Coding::kind_found))]
     fn from(code: u32) -> Kind {
         KINDS.get(code as usize).copied().unwrap_or(Kind::Unlisted)
     }
 }
 
+// Written out, so that `==` has these clauses and an edit of it can be refused by them; a derived one decides the same.
+impl PartialEq for Kind {
+    ghost eq = { on code ◌==◌ };
+
+    ghost laws = { Prim.search (comparing, rules) };
+
+    fn eq(&self, other: &Kind) -> bool
+        ensures value { result ≡ on code ◌==◌ self.now other.now }
+        ensures decides { Decides result (self.now ≡ other.now) }
+    {
+        u32::from(*self) == u32::from(*other)
+    }
+}
+
+impl Eq for Kind {
+    ghost laws = { Prim.search (comparing, rules) };
+}
+
 impl Kind {
-    // Whether two kinds are one: the derived `==` decides it.
+    // Whether two kinds are one: `==` decides it.
     pub fn is(self, other: Kind) -> bool
         ensures { Decides result (self ≡ other) }
     {
