@@ -6,12 +6,13 @@ ghost use Rattle.grammar.specs.Format.{parts as parts_of};
 ghost use Rattle.bounded.specs.Stack.{held, room};
 ghost use Rattle.checker.specs.Check.{check as checked, check_script};
 ghost use Rattle.checker.specs.Laws.{Laws};
-ghost use Rattle.checker.specs.Held.{dues, onto, grown, opened, looped, Sound, Left, frames_of};
+ghost use Rattle.checker.specs.Held.{part_frame, dues, onto, grown, opened, looped, Sound, Left, frames_of};
 
 use crate::frame::{Frame, Labels, START, Spot, is_loop};
 use crate::rules::judge;
 use bounded::stack::Stack;
 use faults::tree::{ReaderFault, TreeFault};
+use grammar::Part;
 use grammar::table::parts;
 use words::word::{Kind, Word};
 
@@ -39,6 +40,18 @@ impl Due<'_> {
         }
     }
 
+    // One run of parts due, unless no times. Asked before the frame is made, since most of a word's four runs are empty.
+    fn need_part(&mut self, part: Part, spot: Spot)
+        requires room { length (held self.old.frames) < 512 }
+        requires spot { spot.depth ≤ 101 }
+        ensures frames { frames_of self.new.frames ≡ onto (part_frame part spot) (frames_of self.old.frames) }
+        ensures len { length (held self.new.frames) ≤ length (held self.old.frames) + 1 }
+    {
+        if part.times != 0 {
+            self.need(Frame::of(part, spot));
+        }
+    }
+
     // The parts of a word come before what is still due.
     fn grow(&mut self, word: Word, spot: Spot)
         requires room { length (held self.old.frames) + 4 ≤ 512 }
@@ -46,10 +59,10 @@ impl Due<'_> {
         ensures { frames_of self.new.frames ≡ grown (parts_of word) spot (frames_of self.old.frames) }
     {
         let p = parts(word);
-        self.need(Frame::of(p.fourth, spot));
-        self.need(Frame::of(p.third, spot));
-        self.need(Frame::of(p.second, spot));
-        self.need(Frame::of(p.first, spot));
+        self.need_part(p.fourth, spot);
+        self.need_part(p.third, spot);
+        self.need_part(p.second, spot);
+        self.need_part(p.first, spot);
     }
 }
 
@@ -95,7 +108,9 @@ fn step(
         (checked count (dues (held labels.old.around) (held labels.old.iterations) (frames_of due.old.frames)) (word ∷ ws) at))
         (λ f. checked count (dues (held labels.old.around) (held labels.old.iterations) (frames_of due.old.frames)) (word ∷ ws) at ≡ Err f) }
 {
-    let frame = due.frames.pop().ok_or(ReaderFault::WordsLeft(at))?;
+    let Some(frame) = due.frames.pop() else {
+        return Err(ReaderFault::WordsLeft(at).into());
+    };
     labels.around.truncate(frame.spot.labels);
     labels.iterations.truncate(frame.spot.iterations);
     judge(count, labels, frame, word, at)?;

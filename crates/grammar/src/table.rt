@@ -1,6 +1,6 @@
 // The parts of each word, by its kind and number.
-ghost use Rattle.std.specs.Prelude.{◌≡◌, ◌+◌, ◌≤◌, slice_index_or};
-ghost use Rattle.grammar.specs.Format.{part, no_part, parts_in, for_parts_lem, try_parts_lem, parts, part_count};
+ghost use Rattle.std.specs.Prelude.{◌≡◌, ◌+◌, [], ◌∷◌};
+ghost use Rattle.grammar.specs.Format.{part, parts_in, for_parts_lem, try_parts_lem, parts, part_count};
 ghost use Rattle.grammar.specs.declared.Surroundings.TheVariants.{Same, Nested};
 
 use crate::*;
@@ -36,24 +36,17 @@ impl Part {
     }
 }
 
-// The part at an index of a list, none where it ends before.
-fn part_at(parts: &[Part], i: usize) -> Part
-    ensures { result ≡ slice_index_or parts.now i no_part }
-{
-    parts.get(i).copied().unwrap_or(NO_PART)
-}
-
 impl Parts {
-    // These parts, of which there are at most four.
-    fn of<const N: usize>(parts: [Part; N]) -> Parts
-        requires { N ≤ 4 }
-        ensures { result ≡ parts_in parts.entry }
+    // At most two parts; a word with more writes the others over what this leaves empty. One function could take a list
+    // of any length, but such a list is written to memory and read back, which takes two to four times as long.
+    fn of(first: Part, second: Part) -> Parts
+        ensures { result ≡ parts_in (first ∷ second ∷ []) }
     {
         Parts {
-            first: part_at(&parts, 0),
-            second: part_at(&parts, 1),
-            third: part_at(&parts, 2),
-            fourth: part_at(&parts, 3),
+            first,
+            second,
+            third: NO_PART,
+            fourth: NO_PART,
         }
     }
 }
@@ -62,23 +55,24 @@ impl Parts {
 fn for_parts(n: u32) -> Parts
     ensures { result ≡ for_parts_lem n }
 {
-    Parts::of([
-        Part::same(What::Expression, has(FOR_EXPRESSION, n)),
-        Part::same(What::ForDeclaration, has(FOR_DECLARATION, n)),
-        Part::same(What::Expression, has(FOR_TEST, n) + has(FOR_UPDATE, n)),
-        Part::new(What::SingleStatement, 1, Surroundings::LoopBody),
-    ])
+    Parts {
+        first: Part::same(What::Expression, has(FOR_EXPRESSION, n)),
+        second: Part::same(What::ForDeclaration, has(FOR_DECLARATION, n)),
+        third: Part::same(What::Expression, has(FOR_TEST, n) + has(FOR_UPDATE, n)),
+        fourth: Part::new(What::SingleStatement, 1, Surroundings::LoopBody),
+    }
 }
 
 // The parts of a Try of this number.
 fn try_parts(n: u32) -> Parts
     ensures { result ≡ try_parts_lem n }
 {
-    Parts::of([
-        Part::nested(What::Body, 1),
-        Part::nested(What::Catch, has(TRY_CATCH, n)),
-        Part::nested(What::Body, has(TRY_FINALIZER, n)),
-    ])
+    Parts {
+        first: Part::nested(What::Body, 1),
+        second: Part::nested(What::Catch, has(TRY_CATCH, n)),
+        third: Part::nested(What::Body, has(TRY_FINALIZER, n)),
+        fourth: NO_PART,
+    }
 }
 
 // The parts that follow this word.
@@ -90,29 +84,31 @@ pub fn parts(word: Word) -> Parts
     let statements = Part::same(What::ListStatement, n);
     let loop_body = Part::new(What::SingleStatement, 1, Surroundings::LoopBody);
     match word.kind {
-        Kind::Block => Parts::of([Part::nested(What::ListStatement, n)]),
-        Kind::Expr | Kind::Throw | Kind::NameInit => Parts::of([expression]),
-        Kind::Var | Kind::Let => Parts::of([Part::same(What::Declarator, n)]),
-        Kind::If => Parts::of([
-            expression,
-            Part::nested(What::SingleStatement, 1),
-            Part::nested(What::SingleStatement, n),
-        ]),
+        Kind::Block => Parts::of(Part::nested(What::ListStatement, n), NO_PART),
+        Kind::Expr | Kind::Throw | Kind::NameInit => Parts::of(expression, NO_PART),
+        Kind::Var | Kind::Let => Parts::of(Part::same(What::Declarator, n), NO_PART),
+        Kind::If => Parts {
+            third: Part::nested(What::SingleStatement, n),
+            ..Parts::of(expression, Part::nested(What::SingleStatement, 1))
+        },
         Kind::For => for_parts(n),
-        Kind::While => Parts::of([expression, loop_body]),
-        Kind::Do => Parts::of([loop_body, expression]),
-        Kind::Switch => Parts::of([
+        Kind::While => Parts::of(expression, loop_body),
+        Kind::Do => Parts::of(loop_body, expression),
+        Kind::Switch => Parts::of(
             expression,
             Part::new(What::Case, n, Surroundings::SwitchCase),
-        ]),
-        Kind::Label => Parts::of([Part::new(What::SingleStatement, 1, Surroundings::LabelBody)]),
-        Kind::Return => Parts::of([Part::same(What::Expression, n)]),
+        ),
+        Kind::Label => Parts::of(
+            Part::new(What::SingleStatement, 1, Surroundings::LabelBody),
+            NO_PART,
+        ),
+        Kind::Return => Parts::of(Part::same(What::Expression, n), NO_PART),
         Kind::Try => try_parts(n),
-        Kind::Body | Kind::Catch | Kind::Default => Parts::of([statements]),
-        Kind::CatchName => Parts::of([Part::same(What::CatchParameter, 1), statements]),
-        Kind::Case => Parts::of([expression, statements]),
-        Kind::Sequence => Parts::of([Part::same(What::SequencePart, n)]),
-        _ => Parts::of([]),
+        Kind::Body | Kind::Catch | Kind::Default => Parts::of(statements, NO_PART),
+        Kind::CatchName => Parts::of(Part::same(What::CatchParameter, 1), statements),
+        Kind::Case => Parts::of(expression, statements),
+        Kind::Sequence => Parts::of(Part::same(What::SequencePart, n), NO_PART),
+        _ => Parts::of(NO_PART, NO_PART),
     }
 }
 

@@ -49,9 +49,12 @@ impl<'a, T: Copy + Drop> Stack<'a, T> {
         ensures slots { slots self.new ≡ slots self.old }
         ensures lender { self.new.items.ghost_name ≡ self.old.items.ghost_name }
     {
-        let top = self.top()?;
+        if self.len == 0 {
+            return None;
+        }
+        // By its index: a copy of what `last` lends is read in larger pieces than a push wrote, and waits for the writes.
         self.len -= 1;
-        Some(top)
+        Some(self.items[self.len])
     }
 
     // The top one, which stays.
