@@ -137,23 +137,40 @@ fn begins_statement(words: &[u32], at: usize) -> bool
     is_statement(declares(Word::from(words[at - 1])), word)
 }
 
-// How many statements the words have. The chain stands here and below, since no function can answer one today: its
+// How many words begin a statement. The chain stands here and below, since no function can answer one today: its
 // closure has no name.
-pub fn statements(words: &[u32]) -> usize
-    ensures value { result ≡ length (places_words (map read_word words.now)) }
-    ensures tree { (ss : Statements) → map read_word words.now ≡ encode_body ss → result ≡ length (places_body ss) }
+fn count_places(words: &[u32]) -> usize
+    ensures { result ≡ length (places_words (map read_word words.now)) }
 {
     (0..words.len())
         .filter(|at| begins_statement(words, *at))
         .count()
 }
 
-// The word where the statement at a place begins; none where there are not so many statements.
-pub fn find_statement(words: &[u32], place: usize) -> Option<usize>
-    ensures value { result ≡ at_place place (places_words (map read_word words.now)) }
-    ensures tree { (ss : Statements) → map read_word words.now ≡ encode_body ss → result ≡ at_place place (places_body ss) }
+// Where the statement at a place begins.
+fn get_place(words: &[u32], place: usize) -> Option<usize>
+    ensures { result ≡ at_place place (places_words (map read_word words.now)) }
 {
     (0..words.len())
         .filter(|at| begins_statement(words, *at))
         .nth(place)
+}
+
+// How many statements the words have. Here and below the chain stands apart with its written proof, so that an edit of
+// a public function is refused at its clauses.
+#[tactic(auto, using(crate::proofs::Placed::places_of_body))]
+pub fn statements(words: &[u32]) -> usize
+    ensures value { result ≡ length (places_words (map read_word words.now)) }
+    ensures tree { (ss : Statements) → map read_word words.now ≡ encode_body ss → result ≡ length (places_body ss) }
+{
+    count_places(words)
+}
+
+// The word where the statement at a place begins; none where there are not so many statements.
+#[tactic(auto, using(crate::proofs::Placed::places_of_body))]
+pub fn find_statement(words: &[u32], place: usize) -> Option<usize>
+    ensures value { result ≡ at_place place (places_words (map read_word words.now)) }
+    ensures tree { (ss : Statements) → map read_word words.now ≡ encode_body ss → result ≡ at_place place (places_body ss) }
+{
+    get_place(words, place)
 }
