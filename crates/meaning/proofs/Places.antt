@@ -65,6 +65,29 @@ not_first n p = go (eqb n 0) refl
     go true q = absurd (let r : n ≡ 0 = eqb→eq n 0 (rw q tt) in omega arith)
     go false q = refl
 
+size_one : (s : Statement) → 1 ≤ size s
+unfolding size
+size_one Empty = omega arith
+size_one Break = omega arith
+size_one Continue = omega arith
+size_one (Block ss) = omega arith
+size_one (Expr e) = omega arith
+size_one (Throw e) = omega arith
+size_one (Var d ds) = omega arith
+size_one (If e s) = omega arith
+size_one (IfElse e s t) = omega arith
+size_one (For j t u s) = omega arith
+size_one (While e s) = omega arith
+size_one (Do s e) = omega arith
+size_one (Switch e cs) = omega arith
+size_one (Label l s) = omega arith
+size_one (BreakTo l) = omega arith
+size_one (ContinueTo l) = omega arith
+size_one (Return e) = omega arith
+size_one (TryCatch b x c) = omega arith
+size_one (TryFinally b f) = omega arith
+size_one (TryBoth b x c f) = omega arith
+
 module _ (m : Model) (dropped : List ℕ) where
   past_list : (p : Parent) (ss : Statements) (n : ℕ) → size_list ss ≤ n → step_list m dropped n p ss ≡ unchanged ss
   unfolding step_inside size

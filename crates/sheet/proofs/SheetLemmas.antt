@@ -114,7 +114,7 @@ module _ (rows : List ℕ) (entries : List SheetValue) (accepted : is_some (shee
   no_row_past : (e : ℕ) → length rows ≤ e → sheet_row_at rows e ≡ None
   no_row_past e h = ap sheet_row_of (get_or_past rows e no_row h)
 
-  row_fine : (e : ℕ) → Fine rows entries e (sheet_row_at rows e)
+  pub row_fine : (e : ℕ) → Fine rows entries e (sheet_row_at rows e)
   row_fine e = by_test (ltb e (length rows)) refl
     where
       by_test : (b : Bool) → ltb e (length rows) ≡ b → FineAt e
@@ -189,13 +189,13 @@ module _ (rows : List ℕ) (entries : List SheetValue) (accepted : is_some (shee
   literal_of_row e (Some Command) fine = refl
 
   -- what the questions look up
-  end_known : (e : ℕ) → None ≡ false_operand_lem (sheet_row_at rows e) → option_map language (end_value_lem rows entries (sheet_row_at rows e)) ≡ (at e).known
+  pub end_known : (e : ℕ) → None ≡ false_operand_lem (sheet_row_at rows e) → option_map language (end_value_lem rows entries (sheet_row_at rows e)) ≡ (at e).known
   end_known e h = value_of_row e (sheet_row_at rows e) (row_fine e) h ∙ ap (λ (x : Expression). x.known) (sym (from_row e))
 
-  end_acts : (e : ℕ) → None ≡ false_operand_lem (sheet_row_at rows e) → end_effects_lem rows (sheet_row_at rows e) ≡ (at e).effects
+  pub end_acts : (e : ℕ) → None ≡ false_operand_lem (sheet_row_at rows e) → end_effects_lem rows (sheet_row_at rows e) ≡ (at e).effects
   end_acts e h = effects_of_row e (sheet_row_at rows e) (row_fine e) h ∙ ap (λ (x : Expression). x.effects) (sym (from_row e))
 
-  literal_at : (e : ℕ) → is_literal_row_lem (sheet_row_at rows e) ≡ (at e).literal
+  pub literal_at : (e : ℕ) → is_literal_row_lem (sheet_row_at rows e) ≡ (at e).literal
   literal_at e = literal_of_row e (sheet_row_at rows e) (row_fine e) ∙ ap (λ (x : Expression). x.literal) (sym (from_row e))
 
   -- one step along a chain
@@ -210,10 +210,10 @@ module _ (rows : List ℕ) (entries : List SheetValue) (accepted : is_some (shee
   fine_operand : (e n : ℕ) (row : Option SheetRow) → row ≡ Some (IsFalse n) → Fine rows entries e row → n < e
   fine_operand e n row p fine = rw p at fine
 
-  operand_earlier : (e n : ℕ) → Some n ≡ false_operand_lem (sheet_row_at rows e) → n < e
+  pub operand_earlier : (e n : ℕ) → Some n ≡ false_operand_lem (sheet_row_at rows e) → n < e
   operand_earlier e n h = fine_operand e n (sheet_row_at rows e) (false_row (sheet_row_at rows e) n h) (row_fine e)
 
-  made_false : (e n : ℕ) → Some n ≡ false_operand_lem (sheet_row_at rows e) → at e ≡ false_expression (at n)
+  pub made_false : (e n : ℕ) → Some n ≡ false_operand_lem (sheet_row_at rows e) → at e ≡ false_expression (at n)
   made_false e n h = from_row e ∙ ap (expression_of entries at e) (false_row (sheet_row_at rows e) n h)
 
 -- truths through 'is false'
@@ -226,7 +226,7 @@ negate_twice true (Some v) = ap (λ (t : Bool). Some t) (not_not (to_boolean v))
     not_not false = refl
 negate_twice false (Some v) = refl
 
-follow_on : (x y z : Expression) (b : Bool) → y ≡ false_expression z → Follows x y b → Follows x z (not b)
+pub follow_on : (x y z : Expression) (b : Bool) → y ≡ false_expression z → Follows x y b → Follows x z (not b)
 follow_on x y z b p f = record {
   truth = f.truth ∙ ap (λ (o : Expression). option_map (negate_when b) (known_truth o)) p ∙ negate_twice b z.known;
   effects = f.effects ∙ ap (λ (o : Expression). o.effects) p;
@@ -236,6 +236,9 @@ not_negated : (o : Option Bool) → o ≡ option_map (negate_when false) o
 not_negated None = refl
 not_negated (Some t) = refl
 
+pub follow_self : (x : Expression) → Follows x x false
+follow_self x = record { truth = not_negated (known_truth x); effects = refl }
+
 -- the truth and the value that the questions answer
 pub differs : (t n : Bool) → not (beq t n) ≡ negate_when n t
 differs true true = refl
@@ -243,7 +246,7 @@ differs true false = refl
 differs false true = refl
 differs false false = refl
 
-meaning_known : (v : Option SheetValue) → option_map sheet_meaning v ≡ option_map listed (option_map language v)
+pub meaning_known : (v : Option SheetValue) → option_map sheet_meaning v ≡ option_map listed (option_map language v)
 meaning_known None = refl
 meaning_known (Some v) = refl
 
@@ -258,13 +261,13 @@ false_value t (Some v) h =
     ap (λ (u : LanguageValue). Some (listed u)) (boolean_language t ∙ ap boolean same)
 
 module _ (rows : List ℕ) (entries : List SheetValue) (accepted : is_some (sheet_refused rows entries) ≡ false) where
-  known_through : (e end : ℕ) (negated : Bool) → Follows (sheet_expression rows entries e) (sheet_expression rows entries end) negated → None ≡ false_operand_lem (sheet_row_at rows end) → (v : Option SheetValue) → v ≡ end_value_lem rows entries (sheet_row_at rows end) → option_map (negate_when negated) (option_map to_boolean (option_map language v)) ≡ known_truth (sheet_expression rows entries e)
+  pub known_through : (e end : ℕ) (negated : Bool) → Follows (sheet_expression rows entries e) (sheet_expression rows entries end) negated → None ≡ false_operand_lem (sheet_row_at rows end) → (v : Option SheetValue) → v ≡ end_value_lem rows entries (sheet_row_at rows end) → option_map (negate_when negated) (option_map to_boolean (option_map language v)) ≡ known_truth (sheet_expression rows entries e)
   known_through e end negated follows ends v p =
       ap (λ (u : Option SheetValue). option_map (negate_when negated) (option_map to_boolean (option_map language u))) p
       ∙ ap (λ (k : Option LanguageValue). option_map (negate_when negated) (option_map to_boolean k)) (end_known rows entries accepted end ends)
       ∙ sym follows.truth
 
-  value_of_false : (e n : ℕ) (t : Bool) → Some n ≡ false_operand_lem (sheet_row_at rows e) → Some t ≡ known_truth (sheet_expression rows entries e) → Some (listed (language (boolean_value t))) ≡ option_map listed (sheet_expression rows entries e).known
+  pub value_of_false : (e n : ℕ) (t : Bool) → Some n ≡ false_operand_lem (sheet_row_at rows e) → Some t ≡ known_truth (sheet_expression rows entries e) → Some (listed (language (boolean_value t))) ≡ option_map listed (sheet_expression rows entries e).known
   value_of_false e n t p q =
       let made = made_false rows entries accepted e n p in
       false_value t (sheet_expression rows entries n).known (q ∙ ap known_truth made)

@@ -72,7 +72,8 @@ impl<'a> Sheet<'a> {
         })
     }
 
-    // Makes the host of these rows, entries and granted names in place of this one, which a refusal leaves as it was.
+    // Makes the host of these rows, entries and granted names in place of this one, which a refusal leaves as it was. Each
+    // host has its own, since they are made of different lists.
     pub fn make(
         &mut self,
         rows: &'a [u32],
