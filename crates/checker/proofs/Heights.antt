@@ -1,4 +1,4 @@
--- How high the frames lie: a stack of 512 frames and two of 102 labels are never full.
+-- How high the frames lie: a stack of 512 frames, one of 102 labels of loops and one of more open labels are never full.
 use Rattle.std.proofs.Common.{◌≡◌, ℕ, ◌+◌, ◌*◌, ◌<◌, ◌≤◌, Bool, true, false, cond, eqb, leb, List, [], ◌∷◌, length, refl, arith, leb-true}
 use borrow.Author.Tests.{eqb-false}
 use Rattle.words.specs.declared.word.Kind.{Kind}

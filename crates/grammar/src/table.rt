@@ -37,8 +37,8 @@ impl Part {
 }
 
 impl Parts {
-    // At most two parts; a word with more writes the others over what this leaves empty. One function could take a list
-    // of any length, but such a list is written to memory and read back, which takes two to four times as long.
+    // At most two parts. An If writes its third over what this leaves empty; a For and a Try write all four. One function
+    // could take a list of any length, but a list is written to memory and read back, and takes two to four times as long.
     fn of(first: Part, second: Part) -> Parts
         ensures { result ≡ parts_in (first ∷ second ∷ []) }
     {

@@ -12,7 +12,7 @@ fn is_name(element: u32, name: u32) -> bool
     element == name
 }
 
-// Where the first element stands that is this number. A loop, and no `any`: with one, scripts of many labels or jumps
+// Where the first element stands that is this number. A loop, and no `any`: with one, scripts of many jumps to labels
 // load in 1.3 to 1.5 times the time.
 fn position(list: &[u32], number: u32) -> Option<usize>
     ensures { is_some result ≡ among number list.now }
